@@ -78,9 +78,9 @@ form_of deepest true = form.Csv
 form_of true false = form.Deepest
 form_of false false = form.Text
 
--- What `stats` answers: by the file of the pair in a folder, where there is a folder, whose bytes no
--- contract knows; else with `--classes` from tables by classes, which so many workers build over so
--- many blocks; without it the workers and blocks count for nothing.
+-- What `stats` answers: by the file of the pair in a folder, where there is a folder, whose bytes
+-- no contract knows; else with `--classes` from tables by classes, which so many workers build over
+-- so many blocks; without it the workers and blocks count for nothing.
 abbrev pub AnswersCount : {A : Type 0} → Option A → Bool → Stats → Option (List ℕ) → Option (List ℕ) → Result (Unit {0}) Fault → Type 0
 AnswersCount (Some folder) classes asked old new result = AnswersCountsFrom (board_of asked.board.now) asked.board.now None asked.pair.now asked.csv old new result
 AnswersCount None false asked old new result = AnswersStats (board_of asked.board.now) asked.pair.now (form_of asked.deepest asked.csv) old new result
@@ -177,8 +177,8 @@ status_of (Ok done) = 0
 status_of (Err fault) = 1
 
 -- How the words were answered, where they have no mistake: by the command that they ask for, whose
--- output may be a terminal; by a text where they ask for help or for the version, or by want of memory,
--- with nothing read.
+-- output may be a terminal; by a text where they ask for help or for the version, or by want of
+-- memory, with nothing read.
 abbrev pub Ends : Bool → List Text → Input → Input → Option (List ℕ) → Option (List ℕ) → Result (Unit {0}) Fault → Type 0
 Ends on_terminal words before after old new answer =
     ((request : Request) × AsksFor (named_by words) request × (faults_of words ≡ [])

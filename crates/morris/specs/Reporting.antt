@@ -20,8 +20,8 @@ is_of_folder fault.NoFolder = true
 is_of_folder fault.Unlocked = true
 is_of_folder _ = false
 
--- A colon and the path that the words have, at most 4,096 bytes of it, each of which is shown as in a
--- text that was asked about: so it stays one line. Nothing of an empty one.
+-- A colon and the path that the words have, at most 4,096 bytes of it, each of which is shown as in
+-- a text that was asked about: so it stays one line. Nothing of an empty one.
 abbrev pub path_text : List ℕ → List ℕ
 path_text [] = []
 path_text (byte ∷ bytes) = codes ": " ++ flat_map shown_byte (take 4096 (byte ∷ bytes))

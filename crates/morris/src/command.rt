@@ -96,8 +96,8 @@ pub fn command<
 pub struct Terminals {
     /// Whether the output is one, to which no table goes.
     pub output: bool,
-    /// Whether the stream for faults is one, on which a line of progress takes the place of the last
-    /// one, and is cleared at the end.
+    /// Whether the stream for faults is one, on which a line of progress takes the place of the
+    /// last one, and is cleared at the end.
     pub errors: bool,
 }
 
@@ -199,8 +199,8 @@ fn folder_of<'a>(task: &Task<'a>) -> Option<&'a str>
     }
 }
 
-/// Runs the command of a task, and tells `teller` how far it is; `on_terminal` says that `output` is
-/// a terminal. `why` is what the system said of the task's folder, where it refused something.
+/// Runs the command of a task, and tells `teller` how far it is; `on_terminal` says that `output`
+/// is a terminal. `why` is what the system said of the task's folder, where it refused something.
 fn run<R: Threads + Wait + Sync + Files<File = File> + AllocGlobal, I: Source, O: Sink, T: Teller>(
     rt: &R,
     alloc: Global,

@@ -25,9 +25,9 @@ use std::thread::Threads;
 use std::time::Clock;
 
 /// Answers the words that the system gave, of which the first is the program's own name: runs the
-/// command that they name, as [`command`](crate::command::command) says, on all of them and on these
-/// three streams, some of which may be terminals, and gives its exit status. `main` does nothing but
-/// call this.
+/// command that they name, as [`command`](crate::command::command) says, on all of them and on
+/// these three streams, some of which may be terminals, and gives its exit status. `main` does
+/// nothing but call this.
 ///
 /// Where the system gave no words, nothing is read and nothing goes to `output`: with want of
 /// memory the status is 1 and fault 12 goes to `errors`, and with a word that isn't text (of bytes

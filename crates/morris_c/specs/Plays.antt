@@ -20,7 +20,8 @@ bare_record m = move_record m Draw
 
 -- What listing the legal moves answers. Masks that aren't a position have the status of the fault,
 -- and nothing is written. Where there is room for the moves, each is written once, in their order,
--- and how many there are, with status 0; where there is too little, it is 7, and nothing is written.
+-- and how many there are, with status 0; where there is too little, it is 7, and nothing is
+-- written.
 pub record ListsLegalMoves (board : Shape) (s : Sides) (status : ℤ) (old new : List MoveRecord) (old_count new_count : ℕ) : Type 0 where
   pub refused : (fault : MaskFault) → IsMaskRefusal board s fault → (status ≡ pos (mask_status fault)) × (new ≡ old)
   pub room : IsPosition board s → length old < length (moves_of board s) → (status ≡ pos 7) × (new ≡ old)

@@ -27,8 +27,8 @@ PrintsStats board pair forms.Text old new result = PrintsTallies board pair fals
 PrintsStats board pair forms.Deepest old new result = PrintsDeepest board pair old new result
 PrintsStats board pair forms.Csv old new result = PrintsTallies board pair true (HasCode board pair) old new result
 
--- What is answered over a table of the pair: want of memory, with nothing printed; otherwise the text
--- is printed.
+-- What is answered over a table of the pair: want of memory, with nothing printed; otherwise the
+-- text is printed.
 abbrev pub AnswersCounts : {T : Type 0} → Shape → Counts → Form → Option (List ℕ) → Option (List ℕ) → Result T Fault → Type 0
 AnswersCounts board pair form old new result =
     ((result ≡ Err fault.Memory) × Keeps old new) ⊎ PrintsStats board pair form old new result

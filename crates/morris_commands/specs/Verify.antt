@@ -15,8 +15,9 @@ use Rattle.morris_jobs.specs.Verified.{verified_text}
 use Rattle.morris_jobs.specs.Answering.{OnBoard, OnRead}
 use Rattle.morris_commands.specs.Build.{IsUnbuiltBefore, RestsOnTooDeep}
 
--- Why a table that was read isn't believed: the pairs on which its own rests aren't built; or, where
--- codes suffice for them, the first entry that isn't what the rules give from those of its results.
+-- Why a table that was read isn't believed: the pairs on which its own rests aren't built; or,
+-- where codes suffice for them, the first entry that isn't what the rules give from those of its
+-- results.
 abbrev pub IsUnverified : Shape → Table → ℕ → Fault → Type 0
 IsUnverified board t blocks (fault.Differs index) = ¬ RestsOnTooDeep board t.pair × IsFirstToDiffer board t index
 IsUnverified board t blocks refused = IsUnbuiltBefore board t.pair blocks refused

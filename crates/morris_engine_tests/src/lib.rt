@@ -1,5 +1,5 @@
-//! Small graphs with exits, gates and watches for tests, and the tests of what needs no table: of the
-//! engine, and of boards, positions, moves and numberings.
+//! Small graphs with exits, gates and watches for tests, and the tests of what needs no table: of
+//! the engine, and of boards, positions, moves and numberings.
 //!
 //! No part of the product: nothing that is built for use stands on this crate. What it has public
 //! is what other crates of tests take.

@@ -24,13 +24,13 @@ digest_lines board pair digest written = flat_map (λ w. digest_line board (pair
 abbrev pub is_digit : ℕ → Bool
 is_digit byte = is_between 48 byte 57 || is_between 97 byte 102
 
--- whether a line, without a line feed, is that of a pair's file, whatever the digest: 64 digits, two
--- blanks, and the file's name
+-- whether a line, without a line feed, is that of a pair's file, whatever the digest: 64 digits,
+-- two blanks, and the file's name
 unfoldable pub is_line_of : List ℕ → List ℕ → Counts → Bool
 is_line_of board line c = list_all is_digit (take 64 line) && bytes_eq (drop 64 line) (codes "  " ++ name_of board c)
 
--- whether a line is that of a pair's file, which isn't replaced where the files of all pairs below a
--- pair are
+-- whether a line is that of a pair's file, which isn't replaced where the files of all pairs below
+-- a pair are
 abbrev pub is_kept_of : List ℕ → Counts → List ℕ → Counts → Bool
 is_kept_of board replaced line c = not (is_below replaced c) && is_line_of board line c
 

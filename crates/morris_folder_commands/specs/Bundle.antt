@@ -13,8 +13,8 @@ use Rattle.morris_jobs.specs.Inputs.{Input}
 use Rattle.morris_jobs.specs.Orders.{KeepsNear}
 use Rattle.morris_folder_commands.specs.From.{TakesIn, ended}
 
--- how far it is: the stock of tables, whether there was a file, how many bytes were printed, and what
--- the output has taken
+-- how far it is: the stock of tables, whether there was a file, how many bytes were printed, and
+-- what the output has taken
 pub record Reached : Type 0 where
   pub stock : Stored
   pub some : Bool

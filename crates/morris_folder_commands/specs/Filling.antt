@@ -24,8 +24,8 @@ KeepsTable board name None old new result = ⊥
 KeepsTable board name (Some t) old new (Ok w) = IsFiled board name t old new × IsOf board t w
 KeepsTable board name (Some t) old new (Err refused) = IsUnfiled board name t old new refused
 
--- once the file of digests is written, or isn't, the folder is filled; the list begins with the lines
--- that were kept
+-- once the file of digests is written, or isn't, the folder is filled; the list begins with the
+-- lines that were kept
 abbrev pub IsFilledBut : Shape → Layout → List ℕ → Counts → ℕ → List ℕ → Place → Place → List ℕ → Type 0
 IsFilledBut board l name pair blocks kept before here digests =
     (after : Place) (result : Result (Unit {0}) Fault) → Ends name (kept ++ digests) here after result → FillsFolder board l name pair blocks kept before after result

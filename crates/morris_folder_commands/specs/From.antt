@@ -90,8 +90,8 @@ AnswersFound board files name old new result =
     ((result ≡ Err fault.Memory) × Keeps old new)
     ⊎ ((empty : Stored) × ((c : Counts) → table_on empty c ≡ None) × Verifies board files name (pairs_of board) empty false 0 old new result)
 
--- What it answers on a board: there is no such folder, with nothing printed; otherwise what it answers
--- in the folder, whose files are looked for and not changed.
+-- What it answers on a board: there is no such folder, with nothing printed; otherwise what it
+-- answers in the folder, whose files are looked for and not changed.
 abbrev pub AnswersFromOn : Shape → Option Files → List ℕ → Option (List ℕ) → Option (List ℕ) → Result (Unit {0}) Fault → Type 0
 AnswersFromOn board files name old new result =
     ((result ≡ Err fault.NoFolder) × Keeps old new)

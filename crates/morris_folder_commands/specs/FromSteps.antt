@@ -18,16 +18,16 @@ place_is board place None = (c : Counts) × (slice_get all_pairs place ≡ Some 
 place_is board place (Some c) = (slice_get all_pairs place ≡ Some c) × (fits board c ≡ true)
 
 -- How far the headers of the files were read, by the number of failed calls before and after it:
--- past all 28 places, and no call failed; or to that of a pair of the board whose file wasn't opened,
--- and one call failed, with room for another.
+-- past all 28 places, and no call failed; or to that of a pair of the board whose file wasn't
+-- opened, and one call failed, with room for another.
 abbrev pub EndsAt : Shape → ℕ → ℕ → ℕ → Type 0
 EndsAt board end old new =
     ((end ≡ 28) × (new ≡ old))
     ⊎ ((c : Counts) × place_is board end (Some c) × (new ≡ old + 1) × (new < 2 ^ 64 - 1))
 
--- How far the files can be opened, as far as is known, by the number of failed calls before and now:
--- past all 28 places, and no call failed; or to that of a pair of the board whose file wasn't opened,
--- and some call failed.
+-- How far the files can be opened, as far as is known, by the number of failed calls before and
+-- now: past all 28 places, and no call failed; or to that of a pair of the board whose file wasn't
+-- opened, and some call failed.
 abbrev pub StopsAt : Shape → ℕ → ℕ → ℕ → Type 0
 StopsAt board end old new =
     ((end ≡ 28) × (new ≡ old))

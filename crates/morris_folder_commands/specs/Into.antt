@@ -74,8 +74,8 @@ abbrev pub IsUnfiled : Shape → List ℕ → Table → Option Files → Option 
 IsUnfiled board name t old new refused =
     (why : NotWhole) × (refused ≡ step_fault (fault.Unwritten t.pair.greater t.pair.lesser) why.step) × Goes old new (AreNotWhole (name_of name t.pair) (file_of board t) why)
 
--- What is done of a pair whose table was built: its file isn't written, and nothing printed; or it is
--- written, and then its line printed, or its first bytes. `sent` bytes were printed before.
+-- What is done of a pair whose table was built: its file isn't written, and nothing printed; or it
+-- is written, and then its line printed, or its first bytes. `sent` bytes were printed before.
 abbrev pub IsDone : Shape → List ℕ → Table → ℕ → Place → Place → Result ℕ Fault → Type 0
 IsDone board name t sent before after result =
     ((refused : Fault) × (result ≡ Err refused) × IsUnfiled board name t before.files after.files refused × Keeps before.out after.out)
@@ -103,7 +103,8 @@ digest_of board name t = digest_line name t.pair (sha256 (file_of board t))
 -- The pairs are done one after the other: a table is built, its file written and its line printed
 -- before the next pair begins. The first refusal ends it: the pair isn't built, and all is as it
 -- was; or it is built and not done. `sent` bytes were printed before, and the files that were
--- written before have these digests. At the end the list has the lines that were kept, and then these.
+-- written before have these digests. At the end the list has the lines that were kept, and then
+-- these.
 unfoldable pub Fills : Shape → Layout → List ℕ → ℕ → List ℕ → List Counts → ℕ → List ℕ → Place → Place → Result (Unit {0}) Fault → Type 0
 Fills board l name blocks kept [] sent digests before after result = Ends name (kept ++ digests) before after result
 Fills board l name blocks kept (c ∷ pairs) sent digests before after result =

@@ -1,8 +1,8 @@
 //! Tables and the prober.
 //!
-//! What a test works on comes from a function that ends the test where a call is refused, and what is
-//! found is compared in [`checks`](crate::checks): a test with many `?` and assertions of its own
-//! takes long to prove.
+//! What a test works on comes from a function that ends the test where a call is refused, and what
+//! is found is compared in [`checks`](crate::checks): a test with many `?` and assertions of its
+//! own takes long to prove.
 
 mod builds;
 mod example;

@@ -28,8 +28,8 @@ most_files = 64
 abbrev pub Ending : Type 0 → Type 0 → Type 0
 Ending A S = Result A Fault × S × Input
 
--- Each table is taken, which leads from what the files before it have led to on, or is refused; where
--- each was taken, what they have led to is answered.
+-- Each table is taken, which leads from what the files before it have led to on, or is refused;
+-- where each was taken, what they have led to is answered.
 module _ {A S : Type 0} (board : Shape) (takes : S → Table → S → Result (Unit {0}) Fault → Type 0) (answer : S → Result A Fault) where
   -- what follows from what was read: the fault of a file that is refused, or the end, or what
   -- becomes of the file's table
@@ -43,9 +43,9 @@ module _ {A S : Type 0} (board : Shape) (takes : S → Table → S → Result (U
   AfterTaking here after ending next (Err refused) = ending ≡ (Err refused, here, after)
   AfterTaking here after ending next (Ok done) = next
 
-  -- A bundle is gone through file by file: the table of a file is taken before the next file is read.
-  -- The first refusal ends it, and nothing more is read. Where no more files are taken, one more is
-  -- too many.
+  -- A bundle is gone through file by file: the table of a file is taken before the next file is
+  -- read. The first refusal ends it, and nothing more is read. Where no more files are taken, one
+  -- more is too many.
   unfoldable pub TakesBundle : ℕ → S → Input → Ending A S → Type 0
   TakesBundle zero here before ending =
       (after : Input) × (found : Result (Option Table) ReadFault) × IsNext board before after found

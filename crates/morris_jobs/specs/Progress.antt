@@ -35,8 +35,8 @@ so_far_text s =
     ++ labelled (codes ", ") s.seconds ++ codes " s" ++ left_text s.left
 
 -- What is told: how much there is to do, `progress: N entries, about M MB of memory`; the wave of a
--- pair that begins; how many entries are done in the midst of a pair; the pair that is done; nothing,
--- in the place of what a terminal shows.
+-- pair that begins; how many entries are done in the midst of a pair; the pair that is done;
+-- nothing, in the place of what a terminal shows.
 abbrev pub news_text : News → List ℕ
 news_text (news.Whole entries megabytes) =
     labelled (codes "progress: ") entries ++ labelled (codes " entries, about ") megabytes ++ codes " MB of memory"
@@ -51,8 +51,8 @@ is_passing (news.Whole entries megabytes) = false
 is_passing (news.Done greater lesser so_far) = false
 is_passing _ = true
 
--- As a line: on a terminal in the place of the one at which it is, of which the rest is cleared, and
--- without a line feed where it is to be replaced itself.
+-- As a line: on a terminal in the place of the one at which it is, of which the rest is cleared,
+-- and without a line feed where it is to be replaced itself.
 abbrev pub news_line : Bool → News → List ℕ
 news_line false n = news_text n ++ (10 ∷ [])
 news_line true n = (13 ∷ []) ++ news_text n ++ (27 ∷ codes "[K") ++ (if is_passing n then [] else 10 ∷ [])
@@ -153,9 +153,9 @@ BeginsWithWhole has_begun tells whole (news.Whole entries megabytes ∷ rest) = 
 BeginsWithWhole has_begun tells whole (n ∷ rest) = ⊥
 
 module _ {E : Type 0} (contents : E → Option (List ℕ)) (failures : E → ℕ) where
-  -- What telling makes of who tells: of the same sink, which was told some lines, or nothing where it
-  -- isn't told anything. Nothing more is told after a write that failed, and nothing before how much
-  -- there is to do, which stays what it is once it is known.
+  -- What telling makes of who tells: of the same sink, which was told some lines, or nothing where
+  -- it isn't told anything. Nothing more is told after a write that failed, and nothing before how
+  -- much there is to do, which stays what it is once it is known.
   pub record Continues (old new : Telling E) : Type 0 where
     pub same : new.lent ≡ old.lent
     pub silent : old.tells ≡ false → (new.tells ≡ false) × (new.sink ≡ old.sink)
@@ -168,10 +168,10 @@ module _ {E : Type 0} (contents : E → Option (List ℕ)) (failures : E → ℕ
   abbrev pub Becomes : {R : Type 0} → Progress R E → Progress R E → Type 0
   Becomes old new = Continues (telling_of old) (telling_of new)
 
-  -- What telling one of the news makes of who tells: what it was, where it isn't told anything or it
-  -- isn't known how much there is to do. Else its line went out, or its first bytes up to the write
-  -- that failed, and more is told only where it went out; or nothing more is told where the sink has
-  -- no room for a failure more.
+  -- What telling one of the news makes of who tells: what it was, where it isn't told anything or
+  -- it isn't known how much there is to do. Else its line went out, or its first bytes up to the
+  -- write that failed, and more is told only where it went out; or nothing more is told where the
+  -- sink has no room for a failure more.
   pub record Speaks (old new : Telling E) (n : News) : Type 0 where
     pub same : new.lent ≡ old.lent
     pub rewrites : new.rewrites ≡ old.rewrites

@@ -53,8 +53,8 @@ impl Estimate {
         self.weight = weight;
     }
 
-    /// So many entries of the pair at work are verified, so many milliseconds after the start. Where
-    /// it is none, nothing is known of them: it is also told while a pair is built.
+    /// So many entries of the pair at work are verified, so many milliseconds after the start.
+    /// Where it is none, nothing is known of them: it is also told while a pair is built.
     pub(crate) fn verified(&mut self, entries: u64, passed: u64) {
         if entries > 0 {
             self.weight = VERIFIED;

@@ -88,8 +88,8 @@ pub fn build_onto<B: Board, R: Threads + Wait + Sync, T: Teller>(
 ///
 /// # Errors
 /// [`Fault::Needs`] with the first pair whose table the table's pair needs and that isn't there,
-/// else [`Fault::Differs`] with the index of the first entry that isn't what the rules give from the
-/// entries of its results.
+/// else [`Fault::Differs`] with the index of the first entry that isn't what the rules give from
+/// the entries of its results.
 pub fn verify_over<B: Board, R: Threads + Sync, T: Teller>(
     crew: Crew<'_, R>,
     stock: &TableSet<B>,

@@ -83,7 +83,8 @@ pub struct SoFar {
 ///
 /// A line of a wave or of entries comes at most once a second; one of a pair that is done always.
 /// On a terminal each takes the place of the last one, unless that tells how much there is to do or
-/// that a pair is done. After a line that couldn't be written nothing more is told, and nothing else changes.
+/// that a pair is done. After a line that couldn't be written nothing more is told, and nothing
+/// else changes.
 #[derive(Drop)]
 pub struct Progress<'a, R, E> {
     clock: &'a R,
@@ -98,8 +99,8 @@ pub struct Progress<'a, R, E> {
     // The pair that is at work.
     greater: u8,
     lesser: u8,
-    // How many of its entries are done; how many those of the pairs that are done have, and how many
-    // entries there are.
+    // How many of its entries are done; how many those of the pairs that are done have, and how
+    // many entries there are.
     part: u64,
     done: u64,
     whole: u64,
@@ -301,7 +302,8 @@ impl<'a, R: Clock, E: Sink> Watch for Progress<'a, R, E> {
         self.tell_in_time(news, so_far.seconds);
     }
 
-    /// So many entries of the pair at work are done. Where more were told of before, they still are.
+    /// So many entries of the pair at work are done. Where more were told of before, they still
+    /// are.
     fn entries(&mut self, done: u64)
         ensures told { Becomes E.contents E.failures self.old self.new }
         ensures part { part_of self.new ≡ max (part_of self.old) done }

@@ -19,8 +19,8 @@ pub enum Way {
     Built { team: Team, all: bool },
     /// They are read from files.
     Read,
-    /// A team builds them, of which only those are kept that a pair to come needs; the pair's own, of
-    /// so many entries, was read.
+    /// A team builds them, of which only those are kept that a pair to come needs; the pair's own,
+    /// of so many entries, was read.
     Verified { team: Team, entries: u64 },
 }
 
@@ -185,8 +185,8 @@ fn weight_in<B: Geometry>(pair: Pair<B>, last: Pair<B>, way: Way) -> u64 {
     }
 }
 
-/// About how many bytes it takes to make the table of a pair with so many entries, beside all tables
-/// that are kept, its own among them.
+/// About how many bytes it takes to make the table of a pair with so many entries, beside all
+/// tables that are kept, its own among them.
 fn bytes_beside<B: Geometry>(pair: Pair<B>, layout: Layout, entries: u64, way: Way) -> u64 {
     match way {
         Way::Swept => bytes_of_making(pair, layout, entries, None),

@@ -108,8 +108,8 @@ fn has_line(text: &[u8], line: &str) -> (usize, bool) {
     (count, is_there)
 }
 
-/// The moves of a position are shown: eight quiet ones and three captures, below the first line; the
-/// text after the last line feed is empty.
+/// The moves of a position are shown: eight quiet ones and three captures, below the first line;
+/// the text after the last line feed is empty.
 fn assert_moves_shown<L: Library>(rt: &(impl Abort + AllocGlobal), held: &mut L) {
     let mut output = IntoWrite::new(Vec::new(rt.alloc()));
     let texts = ["XX..OO.OX"];
@@ -121,8 +121,8 @@ fn assert_moves_shown<L: Library>(rt: &(impl Abort + AllocGlobal), held: &mut L)
     holds(rt, has("  8-3 won in 3"), "a quiet move");
 }
 
-/// A position of 4-3, one of whose captures leads to 3-3, is answered over these files by a text and
-/// a number of faults.
+/// A position of 4-3, one of whose captures leads to 3-3, is answered over these files by a text
+/// and a number of faults.
 fn assert_capture_asked(
     rt: &(impl Abort + AllocGlobal),
     files: &[(&str, &[u8])],

@@ -1,5 +1,6 @@
-// Files by positions of 3-3 on `grid` of which entries were changed: where what the file states of a
-// position doesn't follow from what it states of the results of the legal moves, that is the answer.
+// Files by positions of 3-3 on `grid` of which entries were changed: where what the file states of
+// a position doesn't follow from what it states of the results of the legal moves, that is the
+// answer.
 use crate::asking_tests::assert_asked;
 use crate::held::Held;
 use crate::making::file_of;
@@ -89,8 +90,8 @@ fn a_depth_that_does_not_follow_is_not_told(rt: HostRuntime) {
     }
 }
 
-// The result of the best move is stated as a draw, as lost in 0 and as lost in 65,534: what the move
-// leads to is then a draw, won in 1 and won in 65,535.
+// The result of the best move is stated as a draw, as lost in 0 and as lost in 65,534: what the
+// move leads to is then a draw, won in 1 and won in 65,535.
 #[test]
 fn a_result_that_contradicts_the_value_is_told(rt: HostRuntime) {
     let mut small = file_of(&rt, "3-3", Layout::Full);

@@ -15,7 +15,8 @@ fn a_write_that_fails_is_told(rt: HostRuntime) {
     let small = file_of(&rt, "3-3", Layout::Full);
     let held = [("grid-3-3.nmmt", small.as_slice())];
     let held = &mut Held { files: &held };
-    // The second write of the file fails: the first answer has 28 bytes, the names of the fields 23.
+    // The second write of the file fails: the first answer has 28 bytes, the names of the fields
+    // 23.
     let texts = ["XXXOOO...", "XXX.OO.O."];
     for (show, sent) in [(Show::Best, 28), (Show::Csv, 23)] {
         let mut folder = MemoryFolder::new(rt.alloc(), 0, 2);

@@ -109,8 +109,8 @@ fn assert_goes_out(rt: &(impl Abort + AllocGlobal + Threads + Wait + Sync), fold
     holds(rt, is_same, "the files");
 }
 
-/// A build whose calls and writes fail that are set in the bits answers a fault, prints these lines,
-/// and leaves so many files.
+/// A build whose calls and writes fail that are set in the bits answers a fault, prints these
+/// lines, and leaves so many files.
 fn assert_refused_with(
     rt: &(impl Abort + AllocGlobal + Threads + Wait + Sync),
     (calls, writes): (u64, u64),

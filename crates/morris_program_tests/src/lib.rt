@@ -1,5 +1,5 @@
-//! Tests of what no run of the program shows: folders whose calls fail, `verify_in`, which the program
-//! doesn't call, and answers from files in memory. No part of the product.
+//! Tests of what no run of the program shows: folders whose calls fail, `verify_in`, which the
+//! program doesn't call, and answers from files in memory. No part of the product.
 #![tactic(auto)]
 
 #[cfg(test)]

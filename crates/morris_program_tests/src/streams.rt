@@ -1,4 +1,5 @@
-// Streams that fail: one that gives a byte a call and fails at one of them, and one that takes none.
+// Streams that fail: one that gives a byte a call and fails at one of them, and one that takes
+// none.
 ghost use Rattle.std.specs.Prelude.{◌≡◌, None};
 
 use morris_board::streams::{Failed, FromRead, Sink};

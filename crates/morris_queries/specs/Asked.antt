@@ -27,15 +27,15 @@ use Rattle.morris_queries.specs.Wanted.{ReadsWanted}
 abbrev pub entries_in : Shape → OpenFile → CodedEntries
 entries_in board file = coded_entries file.layout file.pair (codes_in_file board file) (is_some file.bytes)
 
--- What is answered of an open file: to a question for counts, how many positions have each code that
--- the file states; to one for positions, those that have the value.
+-- What is answered of an open file: to a question for counts, how many positions have each code
+-- that the file states; to one for positions, those that have the value.
 abbrev pub AnswersFile : {T : Type 0} → Shape → OpenFile → Question → Option (List ℕ) → Option (List ℕ) → Result T Fault → Type 0
 AnswersFile board file (Counting csv) old new result = AnswersStated board (entries_in board file) csv old new result
 AnswersFile board file (Positions search) old new result =
     AnswersFind board (entries_in board file) search.all search.wanted search.shown old new result
 
--- What is printed where the file is that of an exact table: the same of the game, that is, what `stats`
--- prints; or the positions that have the value in the game.
+-- What is printed where the file is that of an exact table: the same of the game, that is, what
+-- `stats` prints; or the positions that have the value in the game.
 abbrev pub PrintsGame : {T : Type 0} → Shape → OpenFile → Question → Option (List ℕ) → Option (List ℕ) → Result T Fault → Type 0
 PrintsGame board file (Counting csv) old new result = PrintsTallies board file.pair csv (HasCode board file.pair) old new result
 PrintsGame board file (Positions search) old new result =
@@ -48,10 +48,10 @@ abbrev pub IsGameAnswer : {T : Type 0} → Shape → OpenFile → Question → O
 IsGameAnswer board file question old new result =
     ((result ≡ Err fault.Memory) × Keeps old new) ⊎ PrintsGame board file question old new result
 
--- What is answered from the folder of these files, where they are known. That there is no such folder
--- is answered only where they aren't. Memory may be refused before anything is printed. Where there
--- isn't a file of the pair by its header and its length, the fault is that of `lookup`. Else it is
--- what the file states, and the game's where the file is that of an exact table.
+-- What is answered from the folder of these files, where they are known. That there is no such
+-- folder is answered only where they aren't. Memory may be refused before anything is printed.
+-- Where there isn't a file of the pair by its header and its length, the fault is that of `lookup`.
+-- Else it is what the file states, and the game's where the file is that of an exact table.
 abbrev pub AnswersFrom : {T : Type 0} → Shape → List ℕ → Option Files → Counts → Question → Option (List ℕ) → Option (List ℕ) → Result T Fault → Type 0
 AnswersFrom board name known pair question old new result =
     ((result ≡ Err fault.NoFolder) × (known ≡ None) × Keeps old new)
@@ -69,7 +69,8 @@ abbrev pub AnswersCountsFrom : {T : Type 0} → Option Shape → List ℕ → Op
 AnswersCountsFrom named name known text csv old new result =
     OnBoard named result (Keeps old new) (λ board. CountsOn board name known text csv old new result)
 
--- what `find` answers on a board, of the pair and the value that texts name; and on the board of a name
+-- what `find` answers on a board, of the pair and the value that texts name; and on the board of a
+-- name
 abbrev pub FindsOn : {T : Type 0} → Shape → List ℕ → Option Files → List ℕ → List ℕ → Bool → Shown → Option (List ℕ) → Option (List ℕ) → Result T Fault → Type 0
 FindsOn board name known text value all shown old new result =
     OnRead (λ refused. refused) (read_pair_of board.points text) result (Keeps old new) (λ pair.

@@ -44,9 +44,9 @@ pub record IsInGame (board : Shape) (l : Layout) (c : Counts) (all : Bool) (kind
   pub valued : IsValue board s value
   pub asked : is_of_kind kind value ≡ true
 
--- These are found, of which there may be so many: each is asked for; they stand in the order of their
--- entries, and none twice; and one that is asked for is among them, or there are as many as there may
--- be, and none of these comes after it.
+-- These are found, of which there may be so many: each is asked for; they stand in the order of
+-- their entries, and none twice; and one that is asked for is among them, or there are as many as
+-- there may be, and none of these comes after it.
 pub record AreFound (asked : Sides → Type 0) (entry : Sides → ℕ) (most : ℕ) (positions : List Sides) : Type 0 where
   pub each : (s : Sides) → Contains positions s → asked s
   pub in_order : AllPairs (λ s t. (entry s ≤ entry t) × (s ≢ t)) positions
@@ -91,8 +91,8 @@ AreKinds says Deepest kinds = (tallies : List ℕ) × AreTallies says tallies ×
 unfoldable pub found_text : Shape → List Sides → List ℕ
 found_text board positions = flat_map (λ s. line (text_of board s)) positions
 
--- The texts of the positions that are found, as many of them as there may be, or of the first of these
--- where a write failed; or how many there are, as a line.
+-- The texts of the positions that are found, as many of them as there may be, or of the first of
+-- these where a write failed; or how many there are, as a line.
 abbrev pub PrintsFound : {T : Type 0} → Shape → (Sides → ℕ → Type 0) → (Kind → Sides → Type 0) → (Sides → ℕ) → Wanted → Shown → Option (List ℕ) → Option (List ℕ) → Result T Fault → Type 0
 PrintsFound board says asked entry wanted (Texts most) old new result =
     (kinds : Option Kind × Option Kind) × (n : ℕ) × (positions : List Sides) × AreKinds says wanted kinds × (n ≤ most) × (IsOk result → n ≡ most)
@@ -117,8 +117,8 @@ abbrev pub AreFirstFound : (Sides → ℕ → Type 0) → (Kind → Sides → Ty
 AreFirstFound says asked entry wanted most positions =
     (kinds : Option Kind × Option Kind) × (n : ℕ) × AreKinds says wanted kinds × (n ≤ most) × AreOfBoth asked entry n kinds positions
 
--- What was printed before a code that can't be read: nothing, or texts, and where the codes are known
--- those of the first that are found.
+-- What was printed before a code that can't be read: nothing, or texts, and where the codes are
+-- known those of the first that are found.
 abbrev pub PrintsBefore : Shape → CodedEntries → Bool → Wanted → Shown → Option (List ℕ) → Option (List ℕ) → Type 0
 PrintsBefore board entries all wanted Count old new = Keeps old new
 PrintsBefore board entries all wanted (Texts most) old new =
@@ -143,12 +143,13 @@ kind_sum None tallies = 0
 kind_sum (Some kind) tallies =
     sum_by (λ code. if is_of_kind kind (value_in code) then slice_index tallies code else 0) (range_with_len 0 (length tallies))
 
--- These positions are what is found: as many as there may be; or, where a read or a write failed, the
--- first of them.
+-- These positions are what is found: as many as there may be; or, where a read or a write failed,
+-- the first of them.
 abbrev pub AreFoundTo : {T : Type 0} → (ℕ → List Sides → Type 0) → ℕ → List Sides → Result T Failed → Bool → Type 0
 AreFoundTo are most positions result failed = (n : ℕ) × (n ≤ most) × (IsOk result → failed ≡ false → n ≡ most) × are n positions
 
--- what is answered by what went out and by whether all codes were read: of a write that failed first
+-- what is answered by what went out and by whether all codes were read: of a write that failed
+-- first
 abbrev pub ended : Result ℕ ℕ → Result (Unit {0}) Failed → Result (Unit {0}) Fault
 ended (Err sent) read = Err (fault.Write sent)
 ended (Ok sent) (Err why) = Err fault.Read
@@ -165,8 +166,8 @@ module _ {S : Type 0} (contents : S → Option (List ℕ)) (failures : S → ℕ
     pub takes : Takes contents failures old new (found_text board (take most positions))
     pub rest : left ≡ most - length positions
 
-  -- The texts of some positions went in, and the answer is how many more there may be: of those that
-  -- are found of a kind, where the codes are known.
+  -- The texts of some positions went in, and the answer is how many more there may be: of those
+  -- that are found of a kind, where the codes are known.
   pub record PutsKind (entries : CodedEntries) (all : Bool) (kind : Option Kind) (most : ℕ) (old new : Printer S) (result : Result ℕ Failed) : Type 0 where
     pub positions : List Sides
     pub few : length positions ≤ 2 ^ 50

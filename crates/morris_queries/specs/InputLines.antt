@@ -29,7 +29,7 @@ texts_of lines = filter (λ text. not (is_passed_over text)) (map text_in lines)
 abbrev pub texts_ended : List ℕ → List (List ℕ)
 texts_ended bytes = texts_of (whole_lines [] bytes)
 
--- the texts of all lines of an input, of which the last ends there as before a line feed, but for those
--- that are passed over
+-- the texts of all lines of an input, of which the last ends there as before a line feed, but for
+-- those that are passed over
 abbrev pub texts_in : List ℕ → List (List ℕ)
 texts_in bytes = texts_ended (bytes ++ 10 ∷ [])

@@ -32,15 +32,15 @@ abbrev pub best_text : List Move → List ℕ
 best_text [] = []
 best_text (m ∷ ms) = codes ":" ++ flat_map spaced (m ∷ ms)
 
--- A byte of the text that was asked about. A printable character of ASCII (32 to 126) is shown as it
--- is, but a backslash (92) as two. Any other byte is shown as a backslash, an `x` and its two
+-- A byte of the text that was asked about. A printable character of ASCII (32 to 126) is shown as
+-- it is, but a backslash (92) as two. Any other byte is shown as a backslash, an `x` and its two
 -- hexadecimal digits. So a terminal takes none for a command, and no byte for another.
 unfoldable pub shown_byte : ℕ → List ℕ
 shown_byte byte =
     if nat_eq byte 92 then codes "\\\\" else (if nat_le 32 byte && nat_le byte 126 then byte ∷ [] else codes "\\x" ++ encode_lower (byte ∷ []))
 
--- The text that was asked about, byte by byte. Of one that is too long so many bytes are shown as the
--- board has points, and that it is too long.
+-- The text that was asked about, byte by byte. Of one that is too long so many bytes are shown as
+-- the board has points, and that it is too long.
 abbrev pub shown_text : ℕ → List ℕ → List ℕ
 shown_text points text =
     if nat_le (length text) points then flat_map shown_byte text else flat_map shown_byte (take points text) ++ codes " (too long)"

@@ -61,8 +61,8 @@ stated_in board s file = value_in (code_for board file (unwrap_or file.bytes [])
 
 -- ---- what a value follows from
 
--- The better of two values for who may choose between them: a win, and of two wins the sooner; else a
--- draw; else of two losses the later.
+-- The better of two values for who may choose between them: a win, and of two wins the sooner; else
+-- a draw; else of two losses the later.
 abbrev pub better : Value → Value → Value
 better (Won depth) (Won other) = Won (min depth other)
 better (Won depth) _ = Won depth
@@ -70,10 +70,10 @@ better _ (Won depth) = Won depth
 better (Lost depth) (Lost other) = Lost (max depth other)
 better _ _ = Draw
 
--- The value of a position by the rules, from what its legal moves lead to: won in the least depth of
--- the wins among them, if there is one; else a draw, if there is one; else lost in the greatest depth
--- of the losses, and in 0 plies where there is no legal move. The depth is at most 65,535, since a
--- file states none above 65,534: so none states a value that follows from one of 65,535.
+-- The value of a position by the rules, from what its legal moves lead to: won in the least depth
+-- of the wins among them, if there is one; else a draw, if there is one; else lost in the greatest
+-- depth of the losses, and in 0 plies where there is no legal move. The depth is at most 65,535,
+-- since a file states none above 65,534: so none states a value that follows from one of 65,535.
 abbrev pub value_from : List Outcome → Value
 value_from outcomes = fold (λ best o. better best o.value) (Lost 0) outcomes
 
@@ -101,14 +101,14 @@ pub record Telling : Type 0 where
 abbrev pub telling : Value → List Move → List Outcome → List Played → Telling
 telling value best outcomes line = record { value = value; best = best; outcomes = outcomes; line = line }
 
--- What is told of a position that its files agree on: this value, if it is the one that follows from
--- what the moves lead to. Else the files of the position and its moves disagree.
+-- What is told of a position that its files agree on: this value, if it is the one that follows
+-- from what the moves lead to. Else the files of the position and its moves disagree.
 unfoldable pub told_from : Value → List Outcome → Result Telling Fault
 told_from value outcomes =
     if same_value value (value_from outcomes) then Ok (telling value (best_among value outcomes) outcomes []) else Err fault.Disagree
 
--- the legal moves are all there, in order, the value follows from what they lead to, and the best ones
--- are those that lead to it
+-- the legal moves are all there, in order, the value follows from what they lead to, and the best
+-- ones are those that lead to it
 pub record IsListed (board : Shape) (s : Sides) (t : Telling) : Type 0 where
   pub legal : map (λ (o : Outcome). o.step) t.outcomes ≡ moves_of board s
   pub follows : t.value ≡ value_from t.outcomes

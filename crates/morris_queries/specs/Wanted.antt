@@ -37,8 +37,9 @@ abbrev pub ReadsWanted : List ℕ → Result Wanted Fault → Type 0
 ReadsWanted text (Ok wanted) = IsTextOf wanted text
 ReadsWanted text (Err refused) = (refused ≡ fault.ValueText) × ((wanted : Wanted) → ¬ IsTextOf wanted text)
 
--- Of the codes that some position has and that leave this rest when divided by 2 (0 are those of wins,
--- 1 those of losses), the greatest is this depth and one more; there is none where no position has one.
+-- Of the codes that some position has and that leave this rest when divided by 2 (0 are those of
+-- wins, 1 those of losses), the greatest is this depth and one more; there is none where no
+-- position has one.
 abbrev pub IsGreatestDepth : List ℕ → ℕ → Option ℕ → Type 0
 IsGreatestDepth tallies rest None = (code : ℕ) → 0 < code → code % 2 ≡ rest → slice_index tallies code ≡ 0
 IsGreatestDepth tallies rest (Some depth) =

@@ -48,9 +48,9 @@ fn answer<B: Geometry, L: Library>(
 
 /// Answers one text from the files of a folder, and sends the answer. With `Show::Best` it is one
 /// line: the text, the value of its position, and the best moves. What is shown besides stands
-/// below it, lines of fields in its place. A text that is no position's, or whose files aren't there
-/// or can't be read, is answered by the line of the fault after the text. Files that it needs are
-/// opened, and stay open.
+/// below it, lines of fields in its place. A text that is no position's, or whose files aren't
+/// there or can't be read, is answered by the line of the fault after the text. Files that it needs
+/// are opened, and stay open.
 ///
 /// # Errors
 /// How many bytes went out until a write failed.

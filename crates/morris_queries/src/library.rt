@@ -47,8 +47,8 @@ pub trait Library {
     /// Opens the file of this name; `None` where there isn't one.
     ///
     /// # Errors
-    /// [`Reason::Memory`] for want of memory, and any other [`Reason`] where what has the name can't
-    /// be opened as a file.
+    /// [`Reason::Memory`] for want of memory, and any other [`Reason`] where what has the name
+    /// can't be opened as a file.
     fn open(&mut self, name: &str) -> Result<Option<Self::Bytes>, Reason>
         ensures opened { Opens Self.Bytes.contents (files self.old) name.now result }
         ensures kept { files self.new ≡ files self.old };

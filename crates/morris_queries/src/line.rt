@@ -4,8 +4,8 @@ ghost use Rattle.morris_queries.specs.InputLines.{is_passed_over, text_in};
 
 use arrayvec::ArrayVec;
 
-/// How many bytes of a line are kept: the longest text of a position, a carriage return after it, and
-/// one more, by which a line that is too long is known.
+/// How many bytes of a line are kept: the longest text of a position, a carriage return after it,
+/// and one more, by which a line that is too long is known.
 pub(crate) const KEPT: usize = 26;
 
 /// Takes in the next byte of a line. One past those that are kept is passed over.

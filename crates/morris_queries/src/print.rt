@@ -130,8 +130,8 @@ fn put_best<S: Sink>(out: &mut Printer<'_, S>, best: &[Move])
     put_list(out, best);
 }
 
-/// The text that was asked about, of which no byte goes out that isn't a printable character. Of one
-/// that is too long the first bytes stand there, and that it is too long.
+/// The text that was asked about, of which no byte goes out that isn't a printable character. Of
+/// one that is too long the first bytes stand there, and that it is too long.
 #[tactic(auto, using(morris_board::proofs::PrinterLaws::takes_laws))]
 fn put_shown<S: Sink>(out: &mut Printer<'_, S>, points: u8, text: &[u8])
     ensures { Takes S.contents S.failures out.old out.new (shown_text points text.now) }
@@ -155,7 +155,8 @@ fn put_first_line<B: Geometry, S: Sink>(out: &mut Printer<'_, S>, text: &[u8], t
     out.put("\n");
 }
 
-/// The end of a line of fields: the result that a move leads to, and its depth, which a draw hasn't.
+/// The end of a line of fields: the result that a move leads to, and its depth, which a draw
+/// hasn't.
 fn put_csv_value<S: Sink>(out: &mut Printer<'_, S>, value: Value)
     ensures { Takes S.contents S.failures out.old out.new (csv_value value) }
 {

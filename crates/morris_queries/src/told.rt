@@ -140,8 +140,8 @@ impl<B: Geometry, L: Library> Folder<'_, '_, '_, B, L> {
     }
 
     /// The line of play from a position by this move, over so many plies at most: the first best
-    /// move goes on from each position. It ends where there is no move. Each position of it is looked
-    /// at, the last one too.
+    /// move goes on from each position. It ends where there is no move. Each position of it is
+    /// looked at, the last one too.
     ///
     /// # Errors
     /// Those of [`tell_best`](Folder::tell_best), at the first position of the line for which there
@@ -175,8 +175,8 @@ impl<B: Geometry, L: Library> Folder<'_, '_, '_, B, L> {
     /// What is told of a position where this is to be shown.
     ///
     /// # Errors
-    /// Those of [`tell_best`](Folder::tell_best) for the position, and then for those of the line of
-    /// play, where it is to be shown.
+    /// Those of [`tell_best`](Folder::tell_best) for the position, and then for those of the line
+    /// of play, where it is to be shown.
     pub(crate) fn tell(&mut self, position: &Position<B>, show: Show) -> Result<Told<B>, Fault>
         ensures stays { Stays B.shape L.files self.old self.new }
         ensures listed { IfOk result (IsListed B.shape position.now) }

@@ -77,9 +77,9 @@ fn depth_after(words: &str, text: &str) -> Option<u16>
     }
 }
 
-/// The kinds of values that are asked for, one after the other, by the tallies of positions: one; or
-/// of the deepest ones, won in the greatest depth that one of those with these tallies has, and lost
-/// in the greatest. `None` where none is won, or lost.
+/// The kinds of values that are asked for, one after the other, by the tallies of positions: one;
+/// or of the deepest ones, won in the greatest depth that one of those with these tallies has, and
+/// lost in the greatest. `None` where none is won, or lost.
 pub(crate) fn kinds_by(wanted: Wanted, tallies: &[u64]) -> (Option<Kind>, Option<Kind>)
     requires { length tallies.now ≤ 2 ^ 16 }
     ensures { AreKindsBy wanted tallies.now result }

@@ -24,8 +24,8 @@ use std::sync::Wait;
 use std::thread::Threads;
 
 /// Whether the table of a pair by classes is built from a graph by rows: that of each pair of two
-/// different numbers but 5-4 and 6-5. There rows save no time, as far as was measured: what they save
-/// on the way back doesn't pay for putting the codes into the order of the entries.
+/// different numbers but 5-4 and 6-5. There rows save no time, as far as was measured: what they
+/// save on the way back doesn't pay for putting the codes into the order of the entries.
 pub fn is_by_rows<B: Geometry>(pair: Pair<B>) -> bool
     ensures { result ≡ true → pair.lesser < pair.greater }
 {

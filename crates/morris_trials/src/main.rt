@@ -3,8 +3,8 @@
 //!
 //! The program makes a call by itself: it prints what the call answers, how it leaves what it works
 //! on, and what it answers when it is made again. The words of the command line are names of calls.
-//! `ci/refused_memory` runs this program once for each request for memory of each call, and has that
-//! request refused.
+//! `ci/refused_memory` runs this program once for each request for memory of each call, and has
+//! that request refused.
 //!
 //! A word that names no call has positions, which are probed over the table files on standard
 //! input: `ci/lookups` compares what `lookup` answers with that.

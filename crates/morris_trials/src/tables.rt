@@ -33,7 +33,7 @@ fn shelf(alloc: Global) -> Option<Shelf<Grid>> {
 }
 
 /// The file of a table.
-pub(crate) fn file_of(alloc: Global, table: &Exact<Grid>) -> Option<Vec<u8>> {
+fn file_of(alloc: Global, table: &Exact<Grid>) -> Option<Vec<u8>> {
     let mut sink = IntoWrite::new(Vec::new(alloc));
     write_table(&mut sink, table).ok()?;
     Some(sink.into_inner())

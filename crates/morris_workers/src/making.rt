@@ -13,8 +13,8 @@ use std::thread;
 use std::thread::Threads;
 
 // The blocks of the numbers that a worker draws until none is left. An exit that comes due after
-// the last wave shows at once that the graph is too deep. After each block the watch is told that no
-// entry is done yet, so that it hears of the work.
+// the last wave shows at once that the graph is too deep. After each block the watch is told that
+// no entry is done yet, so that it hears of the work.
 fn make_drawn<L: NodeList, G: Graph, W: Watch>(
     alloc: Global,
     graph: &G,

@@ -134,19 +134,19 @@ fn solve_as<
 ///
 /// The workers draw the numbers of the blocks that they make, until none is left, and no gate is
 /// asked. Then they draw the numbers of the blocks for one wave after the other and ask the gate
-/// after each draw (see [`Gate`]). A worker that drew for a wave waits until that wave begins, which
-/// it does once all blocks of the wave before are sent from and not all of them are settled. A
-/// worker that is told to leave ends, and its number stays undone; then no later wave begins. A
-/// graph whose blocks are settled before the first wave is answered without any wave. A worker holds
-/// one lock at a time, and none while it looks at the graph or waits for a wave.
+/// after each draw (see [`Gate`]). A worker that drew for a wave waits until that wave begins,
+/// which it does once all blocks of the wave before are sent from and not all of them are settled.
+/// A worker that is told to leave ends, and its number stays undone; then no later wave begins. A
+/// graph whose blocks are settled before the first wave is answered without any wave. A worker
+/// holds one lock at a time, and none while it looks at the graph or waits for a wave.
 ///
 /// The blocks take what [`Block`] says, with lists of 4 bytes a node that let go of the waves past
 /// ([`Recent`]), or of 8 that keep all in a graph of more than [`SHORT_NODES`]. Each worker takes
 /// the fresh nodes of one block at a time, of 8 bytes each, and goes back from [`PIECE_NODES`] of
 /// them at a time: the batches are of as many bytes as the lists for each node that leads to one of
-/// these. A worker keeps lists that it sent, of up to 512 KiB together, for those of the next pieces.
-/// At the end these are let go, and then the answer takes 2 bytes a node, while the blocks are let go
-/// one after the other.
+/// these. A worker keeps lists that it sent, of up to 512 KiB together, for those of the next
+/// pieces. At the end these are let go, and then the answer takes 2 bytes a node, while the blocks
+/// are let go one after the other.
 ///
 /// [`PIECE_NODES`]: crate::PIECE_NODES
 ///
@@ -184,8 +184,8 @@ pub fn solve<G: Graph + Send + Sync, A: Gate, R: Threads + Wait + Sync>(
 ///
 /// # Errors
 ///
-/// Those of [`solve`]. Where numbers are out of range the watch is told nothing, and of no wave where
-/// the blocks aren't made. A wave that was told may still be refused.
+/// Those of [`solve`]. Where numbers are out of range the watch is told nothing, and of no wave
+/// where the blocks aren't made. A wave that was told may still be refused.
 pub fn solve_with<G: Graph + Send + Sync, A: Gate, R: Threads + Wait + Sync, W: Watch>(
     rt: &R,
     alloc: Global,

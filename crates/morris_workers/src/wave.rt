@@ -23,12 +23,12 @@ use std::thread::Threads;
 // room than this.
 const KEPT_ROOM: usize = 524288;
 
-/// A worker goes back from at most so many fresh nodes of a block at a time, and sends what leads to
-/// them before it goes on. So the batches stay small, however much a block finds.
+/// A worker goes back from at most so many fresh nodes of a block at a time, and sends what leads
+/// to them before it goes on. So the batches stay small, however much a block finds.
 pub const PIECE_NODES: usize = 4096;
 
-// Where few nodes are fresh, a worker sends once it has scattered so many pieces, so that a block is
-// locked once for many sources.
+// Where few nodes are fresh, a worker sends once it has scattered so many pieces, so that a block
+// is locked once for many sources.
 const FULL_PIECES: usize = 16;
 
 // One counter has at most so many numbers: those of the blocks for at least 976 waves.
@@ -199,7 +199,8 @@ impl<L: NodeList, G: Graph, A: Gate, R: Wait> Site<'_, L, G, A, R> {
         Ok(())
     }
 
-    // Scatters what a block found, piece by piece from its last nodes on, so that no batch is large.
+    // Scatters what a block found, piece by piece from its last nodes on, so that no batch is
+    // large.
     fn take(
         &self,
         worker: u64,
@@ -220,9 +221,9 @@ impl<L: NodeList, G: Graph, A: Gate, R: Wait> Site<'_, L, G, A, R> {
         Ok(())
     }
 
-    // Whether all blocks are settled at this wave. It locks one block after the other. `Missing` has
-    // the least number of a block that isn't complete. Where all are, it is `TooDeep` where one isn't
-    // settled at the last wave.
+    // Whether all blocks are settled at this wave. It locks one block after the other. `Missing`
+    // has the least number of a block that isn't complete. Where all are, it is `TooDeep` where one
+    // isn't settled at the last wave.
     fn survey(&self, wave: u16) -> Result<bool, SolveFault>
         ensures { IfErr result (Tells (G.Name.net (G.level self.now.graph.now)) self.now.yard.now) }
     {
@@ -379,11 +380,12 @@ impl<L: NodeList + Send + Sync, G: Graph + Sync, A: Gate, R: Threads + Wait + Sy
     A,
     R,
 > {
-    // Has a worker for each seat at work from this wave on, each in a thread of its own where one can
-    // be started. The workers have the numbers from `first` on. The last one is at work in this
+    // Has a worker for each seat at work from this wave on, each in a thread of its own where one
+    // can be started. The workers have the numbers from `first` on. The last one is at work in this
     // thread, and tells the watch. This thread starts the others one after the other: two that are
-    // started at once, by different threads, often share a processor for long. Answers the last wave
-    // that the last worker went to, and whether memory was refused to any: otherwise each has drawn.
+    // started at once, by different threads, often share a processor for long. Answers the last
+    // wave that the last worker went to, and whether memory was refused to any: otherwise each has
+    // drawn.
     #[cycle(threads)]
     fn work_all<W: Watch>(
         &self,

@@ -51,8 +51,9 @@ impl WaveBarrier {
     /// This wave begins.
     pub(crate) fn begin<R: Wait>(&self, rt: &R, wave: u16) {
         let mut stage = self.stage.lock(rt);
-        // It is safe that this clears `ended`: a worker that ended left a block that no `taken` of an
-        // outbox counts. So `count` never says that all were sent, and no worker begins another wave.
+        // It is safe that this clears `ended`: a worker that ended left a block that no `taken` of
+        // an outbox counts. So `count` never says that all were sent, and no worker begins another
+        // wave.
         *stage = Stage {
             wave,
             sent: 0,

@@ -95,8 +95,8 @@ fn built_by_rows<R: Abort + Threads + Wait + Sync>(
         .expect(rt, "a table")
 }
 
-/// The builds of 4-3 in both layouts and from the graph by rows, over a table of 3-3, agree with its
-/// sweep.
+/// The builds of 4-3 in both layouts and from the graph by rows, over a table of 3-3, agree with
+/// its sweep.
 fn assert_agree_over<R: Abort + Threads + Wait + Sync>(rt: &R, alloc: Global, low: Exact<Grid>) {
     let shelf = shelf_with(rt, alloc, low);
     let pair = pair(rt, 4, 3);

@@ -13,8 +13,8 @@ use std::process::Abort;
 use std::sync::Wait;
 use std::thread::Threads;
 
-/// So many workers tell this entry as the first one that doesn't agree, where a list states that each
-/// position of 3-3 is a draw.
+/// So many workers tell this entry as the first one that doesn't agree, where a list states that
+/// each position of 3-3 is a draw.
 fn assert_told<R: Abort + Threads + Sync>(rt: &R, alloc: Global, workers: usize, wanted: u64) {
     assert!(rt; 1 <= workers && workers <= 64);
     let codes = vec![in alloc; 0u16; 2_691_920].expect(rt, "memory");
