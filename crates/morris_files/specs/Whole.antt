@@ -76,6 +76,14 @@ IsMade contents failures old new part r = MatchResult r
     (λ writer. Goes old new (λ before after. AreSameBut part before after × (contents writer ≡ Some [])) × (failures writer ≡ 0))
     (λ _. IsUnremoved old new part)
 
+-- A part of this name was begun: its writer has written nothing, and each other file is as it was.
+abbrev pub IsBegunPart : {W : Type 0} → (W → Option (List ℕ)) → Option Files → Option Files → List ℕ → W → Type 0
+IsBegunPart contents old new part writer = Goes old new (λ before after. AreSameBut part before after × (contents writer ≡ Some []))
+
+-- the part of the file of this name was
+abbrev pub IsBegun : {W : Type 0} → (W → Option (List ℕ)) → Option Files → Option Files → List ℕ → W → Type 0
+IsBegun contents old new name writer = IsBegunPart contents old new (part_of name) writer
+
 -- What a refusal at a step of the writing of a part leaves: where the part can't be made, what
 -- stood under its name or nothing, and each other file as it was.
 pub record AreNotPart (part : List ℕ) (step : Step) (old new : Files) : Type 0 where

@@ -1,10 +1,10 @@
 //! Files that are written whole or not at all.
-ghost use Rattle.std.specs.Prelude.{◌≡◌, ℕ, ◌+◌, ◌-◌, ◌^◌, ◌<◌, List, IfErr, IfOk, MatchResult, OnOk, Err};
+ghost use Rattle.std.specs.Prelude.{◌≡◌, ◌≢◌, ℕ, ◌+◌, ◌-◌, ◌^◌, ◌<◌, List, Option, IfErr, IfOk, MatchResult, OnOk, Ok, Err, string_bytes};
 ghost use Rattle.std.specs.Io.KnownBytes.{Appends};
 ghost use Rattle.sha2.specs.Sha256.{sha256};
 ghost use Rattle.morris_board.specs.Streams.{CountsFailure};
-ghost use Rattle.morris_files.specs.Files.{Goes, HasFailed};
-ghost use Rattle.morris_files.specs.Whole.{AnswersPart, AnswersWhole, AreGivenUp, IsMade, part_of, may_leave, failed_at, failed_in};
+ghost use Rattle.morris_files.specs.Files.{Files, Goes, HasFailed};
+ghost use Rattle.morris_files.specs.Whole.{AnswersPart, AnswersWhole, AreGivenUp, AreNotWhole, ArePart, IsBegun, IsBegunPart, IsMade, part_of, may_leave, failed_at, failed_in};
 
 use crate::folder::Folder;
 use morris_board::streams::{Failed, Sink};
@@ -79,6 +79,15 @@ pub struct NotWhole {
     pub left: bool,
 }
 
+/// A part of a file that is written: a file of its name with `.part` at its end.
+#[derive(Drop)]
+pub struct Part<W: Drop> {
+    /// The name of the part.
+    name: String,
+    /// What writes it.
+    pub writer: W,
+}
+
 /// Writes the file of this name, in the place of one that is there, so that the name never stands
 /// for a part of the bytes, whatever ends the program: the bytes go to a part, a file of the name
 /// with `.part` at its end, which gets the name once all of them are there and are to last. At the
@@ -107,36 +116,124 @@ pub fn write_whole<F: Folder, C: Contents, W: Watch>(
     // The watch is as it may be after it was told, whatever the answer.
     ensures watched { W.becomes watch.old watch.new }
 {
+    let mut part = begin_part(alloc, folder, name)?;
+    let written = contents.write_to(&mut part.writer, watch);
+    end_part(folder, name, part, written)
+}
+
+/// Begins the part of the file of this name, in the place of what stands under the part's name. Its
+/// writer has written nothing.
+///
+/// Fewer than `u64::MAX - 1` calls of the folder may have failed before.
+///
+/// # Errors
+/// [`NotWhole`] with [`Step::Memory`] where memory for the name of the part is refused, or
+/// [`Step::Create`].
+pub fn begin_part<F: Folder>(
+    alloc: Global,
+    folder: &mut F,
+    name: &str,
+) -> Result<Part<F::Writer>, NotWhole>
+    requires { F.failures folder.old < 2 ^ 64 - 2 }
+    ensures begun { IfOk result (λ part. IsBegun F.Writer.contents (F.files folder.old) (F.files folder.new) name.now part.writer) }
+    ensures unfailed { IfOk result (λ part. F.Writer.failures part.writer ≡ 0) }
+    ensures name { IfOk result (λ part. string_bytes part.name ≡ part_of name.now) }
+    ensures refused { (bytes : List ℕ) → IfErr result (λ fault. Goes (F.files folder.old) (F.files folder.new) (AreNotWhole name.now bytes fault)) }
+    ensures written { IfErr result (λ fault. fault.step ≢ Step.Write) }
+    ensures counted { MatchResult result (λ _. F.failures folder.new ≡ F.failures folder.old) (λ fault. F.failures folder.new ≡ F.failures folder.old + failed_in fault) }
+    ensures held { F.locked folder.new ≡ F.locked folder.old }
+{
     let Ok(part) = [name, ".part"].concat(alloc) else {
         return Err(NotWhole {
             step: Step::Memory,
             left: false,
         });
     };
-    write_by_part(folder, part.as_str(), name, contents, watch)
+    match make_part(folder, part.as_str()) {
+        Ok(writer) => Ok(Part { name: part, writer }),
+        Err(Failed) => Err(NotWhole {
+            step: Step::Create,
+            left: false,
+        }),
+    }
 }
 
-/// Writes a file under the name of its part, and gives it its own.
-fn write_by_part<F: Folder, C: Contents, W: Watch>(
+/// Gives a part its name, the one of the file, once its bytes are to last, and then the names of
+/// the folder are to last: `written` is what was answered where its writer was given all the bytes
+/// of the file, and of nothing else. The answer is their SHA-256.
+///
+/// Fewer than `u64::MAX - 1` calls of the folder may have failed before.
+///
+/// # Errors
+/// [`NotWhole`] with the first step that failed, with [`Step::Write`] where `written` is a failure.
+/// Then the part is removed.
+pub fn end_part<F: Folder>(
     folder: &mut F,
-    part: &str,
     name: &str,
-    contents: &C,
-    watch: &mut W,
+    part: Part<F::Writer>,
+    written: Result<[u8; 32], Failed>,
 ) -> Result<[u8; 32], NotWhole>
     requires failures { F.failures folder.old < 2 ^ 64 - 2 }
-    requires part { part.now ≡ part_of name.now }
-    ensures answer { AnswersWhole name.now (C.bytes contents.now) (F.files folder.old) (F.files folder.new) result }
+    requires name { string_bytes part.name ≡ part_of name.now }
+    requires unwritten { IfErr written (λ _. 0 < F.Writer.failures part.writer) }
+    ensures answer { (files : Option Files) (start : F.Writer) (bytes : List ℕ) → IsBegun F.Writer.contents files (F.files folder.old) name.now start
+        → OnOk written (Appends (F.Writer.contents start) (F.Writer.contents part.writer) bytes) → AnswersWhole name.now bytes files (F.files folder.new) result }
     ensures counted { MatchResult result (λ _. F.failures folder.new ≡ F.failures folder.old) (λ fault. F.failures folder.new ≡ F.failures folder.old + failed_in fault) }
     ensures unwritten { IfErr result (λ fault. fault.step ≡ Step.Write → HasFailed F.Writer.failures) }
     ensures held { F.locked folder.new ≡ F.locked folder.old }
-    ensures digest { IfOk result (λ digest. digest ≡ sha256 (C.bytes contents.now)) }
-    ensures watched { W.becomes watch.old watch.new }
+    ensures digest { IfOk result (λ digest. written ≡ Ok digest) }
 {
-    let digest = match write_part(folder, part, contents, watch) {
-        Ok(digest) => digest,
-        Err(step) => return Err(give_up(folder, part, step)),
+    let Part {
+        name: under,
+        writer,
+    } = part;
+    match sync_part(folder, under.as_str(), writer, written) {
+        Ok(digest) => rename_part(folder, under.as_str(), name, digest),
+        Err(step) => Err(give_up(folder, under.as_str(), step)),
+    }
+}
+
+/// Ends the writing of a part.
+fn sync_part<F: Folder>(
+    folder: &mut F,
+    part: &str,
+    writer: F::Writer,
+    written: Result<[u8; 32], Failed>,
+) -> Result<[u8; 32], Step>
+    requires failures { F.failures folder.old < 2 ^ 64 - 1 }
+    requires unwritten { IfErr written (λ _. 0 < F.Writer.failures writer) }
+    ensures answer { (files : Option Files) (start : F.Writer) (bytes : List ℕ) → IsBegunPart F.Writer.contents files (F.files folder.old) part.now start
+        → OnOk written (Appends (F.Writer.contents start) (F.Writer.contents writer) bytes) → AnswersPart part.now bytes files (F.files folder.new) result }
+    ensures counted { MatchResult result (λ _. F.failures folder.new ≡ F.failures folder.old) (λ step. F.failures folder.new ≡ F.failures folder.old + failed_at step) }
+    ensures unwritten { result ≡ Err Step.Write → HasFailed F.Writer.failures }
+    ensures held { F.locked folder.new ≡ F.locked folder.old }
+    ensures digest { IfOk result (λ digest. written ≡ Ok digest) }
+{
+    let Ok(digest) = written else {
+        folder.abandon(writer);
+        return Err(Step::Write);
     };
+    match folder.sync(part, writer) {
+        Ok(()) => Ok(digest),
+        Err(Failed) => Err(Step::Sync),
+    }
+}
+
+/// Gives a part that was written the name of its file, and answers this digest.
+fn rename_part<F: Folder>(
+    folder: &mut F,
+    part: &str,
+    name: &str,
+    digest: [u8; 32],
+) -> Result<[u8; 32], NotWhole>
+    requires failures { F.failures folder.old < 2 ^ 64 - 2 }
+    requires part { part.now ≡ part_of name.now }
+    ensures answer { (files : Option Files) (bytes : List ℕ) → Goes files (F.files folder.old) (ArePart part.now bytes) → AnswersWhole name.now bytes files (F.files folder.new) result }
+    ensures counted { MatchResult result (λ _. F.failures folder.new ≡ F.failures folder.old) (λ fault. F.failures folder.new ≡ F.failures folder.old + failed_in fault) }
+    ensures unwritten { IfErr result (λ fault. fault.step ≢ Step.Write) }
+    ensures held { F.locked folder.new ≡ F.locked folder.old }
+    ensures digest { IfOk result (λ given. given ≡ digest) }
+{
     match folder.rename(part, name) {
         Ok(()) => {}
         Err(Failed) => return Err(give_up(folder, part, Step::Rename)),
@@ -147,38 +244,6 @@ fn write_by_part<F: Folder, C: Contents, W: Watch>(
             step: Step::Settle,
             left: false,
         }),
-    }
-}
-
-/// Writes a file under the name of a part.
-fn write_part<F: Folder, C: Contents, W: Watch>(
-    folder: &mut F,
-    part: &str,
-    contents: &C,
-    watch: &mut W,
-) -> Result<[u8; 32], Step>
-    requires { F.failures folder.old < 2 ^ 64 - 1 }
-    ensures answer { AnswersPart part.now (C.bytes contents.now) (F.files folder.old) (F.files folder.new) result }
-    ensures counted { MatchResult result (λ _. F.failures folder.new ≡ F.failures folder.old) (λ step. F.failures folder.new ≡ F.failures folder.old + failed_at step) }
-    ensures unwritten { result ≡ Err Step.Write → HasFailed F.Writer.failures }
-    ensures held { F.locked folder.new ≡ F.locked folder.old }
-    ensures digest { IfOk result (λ digest. digest ≡ sha256 (C.bytes contents.now)) }
-    ensures watched { W.becomes watch.old watch.new }
-{
-    let mut writer = match make_part(folder, part) {
-        Ok(writer) => writer,
-        Err(Failed) => return Err(Step::Create),
-    };
-    let digest = match contents.write_to(&mut writer, watch) {
-        Ok(digest) => digest,
-        Err(Failed) => {
-            folder.abandon(writer);
-            return Err(Step::Write);
-        }
-    };
-    match folder.sync(part, writer) {
-        Ok(()) => Ok(digest),
-        Err(Failed) => Err(Step::Sync),
     }
 }
 
