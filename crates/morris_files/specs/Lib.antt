@@ -7,3 +7,4 @@ pub mod Digests
 pub mod Lists
 pub mod Kept
 pub mod Headers
+pub mod Parts
