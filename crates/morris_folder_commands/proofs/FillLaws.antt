@@ -1,12 +1,15 @@
 -- A folder that is filled pair by pair.
-use Rattle.std.proofs.Common.{◌≡◌, ℕ, List, [], ◌∷◌, ◌++◌, Option, Some, None, Result, Ok, Err, refl, ap, subst, ◌∙◌, inl, inr}
+use Rattle.std.proofs.Common.{◌≡◌, ℕ, ◌+◌, ◌≤◌, List, [], ◌∷◌, ◌++◌, Option, Some, None, Result, Ok, Err, refl, sym, ap, subst, ◌∙◌, inl, inr}
+use Rattle.std.specs.Prelude.{IfErr, IfSome, MatchResult, OnOk, option_to_list}
 use Rattle.std.specs.List.{flat_map}
+use Rattle.std.specs.Io.KnownBytes.{Keeps}
 use Rattle.std.proofs.KnownBytes.{Keeps-refl}
 use Rattle.morris_board.specs.Boards.{Shape}
 use Rattle.morris_board.specs.Streams.{AllSent}
-use Rattle.morris_index.specs.Pairs.{Counts}
+use Rattle.morris_index.specs.Pairs.{Counts, below_of}
 use Rattle.morris_pairs.specs.declared.layout.Layout.{Layout}
 use Rattle.morris_pairs.specs.Known.{IsBeyondCodes}
+use Rattle.morris_pairs.specs.Shelves.{Stored, table_on}
 use Rattle.morris_pairs.specs.Tables.{Table}
 use Rattle.morris_files.specs.Files.{Files}
 use Rattle.morris_files.specs.Files as folder
@@ -16,9 +19,10 @@ use Rattle.std.proofs.Math.Path.{ap₂}
 use Rattle.morris_files.specs.Digests.{digest_line, digest_lines}
 use Rattle.morris_files.specs.declared.table_file.Written.{Written}
 use Rattle.morris_jobs.specs.declared.fault.Fault.{Fault}
-use Rattle.morris_jobs.specs.Orders.{IsUnbuiltAt}
-use Rattle.morris_folder_commands.specs.Filling.{IsOf}
-use Rattle.morris_folder_commands.specs.Into.{Ends, Fills, IsBuilt, IsDone, IsFiled, Place, StaysPut, digest_of, filed_line, filed_text}
+use Rattle.morris_jobs.specs.Faults.{PrintsLine}
+use Rattle.morris_jobs.specs.Orders.{IsSpared, IsUnbuiltAt, stones}
+use Rattle.morris_folder_commands.specs.Filling.{GoesOn, IsFilledBut, IsOf, IsThere, KeepsTable, LeadsTo, Rest, Tells, rest_of}
+use Rattle.morris_folder_commands.specs.Into.{Ends, Fills, FillsFolder, IsBuilt, Place, StaysPut, digest_of, filed_line, filed_text}
 
 -- nothing is changed where nothing was done
 pub files_kept : (files : Option Files) → folder.Keeps files files
@@ -49,61 +53,126 @@ pub ends_with : {B : Type 0} (name kept : List ℕ) (us ws : List (Written B)) (
     → Ends name (kept ++ lines_of name us) before after result → Ends name (kept ++ lines_of name ws) before after result
 ends_with name kept us ws before after result same ends = subst (λ files. Ends name (kept ++ lines_of name files) before after result) same ends
 
-module _ (board : Shape) (l : Layout) (name : List ℕ) (blocks : ℕ) (kept : List ℕ) where
-  -- Some pairs are done: what the others lead to, to that all lead.
-  abbrev pub Leads : Place → List Counts → List Counts → ℕ → List ℕ → Place → Type 0
-  Leads start all pairs sent digests here =
-      (after : Place) (result : Result (Unit {0}) Fault) → Fills board l name blocks kept pairs sent digests here after result
-      → Fills board l name blocks kept all 0 [] start after result
+module _ (board : Shape) (l : Layout) (name : List ℕ) (blocks : ℕ) where
+  -- nothing is done
+  pub goes_nowhere : (from to : Rest) → to ≡ from → LeadsTo board l name blocks from to
+  goes_nowhere from to same = λ kept after result fills.
+      subst (λ (r : Rest). Fills board l name blocks kept r.pairs r.sent r.digests r.here after result) same fills
+
+  -- what is done after something else
+  pub goes_further : {T : Type 0} (from mid to : Rest) (result : Result T Fault) → LeadsTo board l name blocks from mid
+      → GoesOn board l name blocks mid to result → GoesOn board l name blocks from to result
+  goes_further from mid to (Ok done) before then = λ kept after result fills. before kept after result (then kept after result fills)
+  goes_further from mid to (Err refused) before then = λ kept. before kept to.here (Err refused) (then kept)
 
   -- a pair that isn't built
-  pub unbuilt : (start : Place) (all pairs : List Counts) (c : Counts) (sent : ℕ) (digests : List ℕ) (here : Place) (refused : Fault)
-      → Leads start all (c ∷ pairs) sent digests here → IsUnbuiltAt board c blocks refused
-      → Fills board l name blocks kept all 0 [] start here (Err refused)
+  pub unbuilt : (T : Type 0) (from : Rest) (c : Counts) (pairs : List Counts) (refused : Fault) → from.pairs ≡ c ∷ pairs
+      → IsUnbuiltAt board c blocks refused → GoesOn {T = T} board l name blocks from from (Err refused)
   unfolding Fills
-  unbuilt start all pairs c sent digests here refused leads why = leads here (Err refused) (inl (refused, refl, why, stays here))
+  unbuilt T from c pairs refused is why = λ kept.
+      subst (λ (ps : List Counts). Fills board l name blocks kept ps from.sent from.digests from.here from.here (Err refused)) (sym is)
+      (inl (refused, refl, why, stays from.here))
 
-  -- one that is built and not done
-  pub undone : (start : Place) (all pairs : List Counts) (c : Counts) (sent : ℕ) (digests : List ℕ) (here next : Place) (t : Table) (refused : Fault)
-      → Leads start all (c ∷ pairs) sent digests here → IsBuilt board l c t → ¬ IsBeyondCodes board c → IsDone board name t sent here next (Err refused)
-      → Fills board l name blocks kept all 0 [] start next (Err refused)
+  -- a table whose file is written and told of, or not
+  module _ {B : Type 0} (waiting : Option Counts) (old new : List (Written B)) (c : Counts) (pairs : List Counts) (t : Table) (sent now : ℕ) (here next : Place)
+      (waits : waiting ≡ Some c) (built : IsBuilt board l c t) (within : ¬ IsBeyondCodes board c) where
+    abbrev first : Rest
+    first = rest_of name old sent waiting pairs here
+
+    abbrev last : Rest
+    last = rest_of name new now None pairs next
+
+    back : (kept : List ℕ) (after : Place) (result : Result (Unit {0}) Fault)
+        → Fills board l name blocks kept (c ∷ pairs) sent (lines_of name old) here after result
+        → Fills board l name blocks kept first.pairs first.sent first.digests here after result
+    back kept after result fills =
+        subst (λ (o : Option Counts). Fills board l name blocks kept (option_to_list o ++ pairs) sent (lines_of name old) here after result) (sym waits) fills
+
+    pub tells_on : (file : Result (Written B) Fault) (result : Result (Unit {0}) Fault) → KeepsTable board name t here.files next.files file
+        → Tells file old new sent now here.out next.out result → GoesOn board l name blocks first last result
+    unfolding Fills
+    tells_on (Err refused) result keeps told =
+        let silent = subst (λ (out : Option (List ℕ)). Keeps here.out out) (sym told.1) (Keeps-refl here.out) in
+        subst (GoesOn board l name blocks first last) (sym told.0)
+        (λ kept. back kept next (Err refused) (inr (t, built, within, (next, Err refused, inl (refused, refl, keeps, silent), (refl, refl)))))
+    tells_on (Ok w) (Ok done) keeps told = λ kept after result fills.
+        let is = keeps.1 in
+        let lines : lines_of name new ≡ lines_of name old ++ digest_of board name t =
+        ap (lines_of name) told.1 ∙ one_more name old w ∙ ap₂ (λ p d. lines_of name old ++ digest_line name p d) is.pair is.digest in
+        let rest = subst (λ (d : List ℕ). Fills board l name blocks kept pairs now d next after result) lines fills in
+        let printed = subst (AllSent here.out next.out sent now) (line_is board t w is) told.0 in
+        back kept after result (inr (t, built, within, (next, Ok now, inr (keeps.0, printed), rest)))
+    tells_on (Ok w) (Err refused) keeps told = λ kept.
+        let printed = subst (λ (text : List ℕ). PrintsLine text sent here.out next.out (Err refused)) (line_is board t w keeps.1) told in
+        back kept next (Err refused) (inr (t, built, within, (next, Err refused, inr (keeps.0, printed), (refl, refl))))
+
+  -- no file waits, and a table is built or not
+  pub built_alone : {T B : Type 0} (waiting left : Option Counts) (written : List (Written B)) (sent : ℕ) (c : Counts) (pairs : List Counts) (here : Place)
+      (result : Result T Fault) → waiting ≡ None → left ≡ None → IfErr result (IsUnbuiltAt board c blocks)
+      → GoesOn board l name blocks (rest_of name written sent waiting (c ∷ pairs) here) (rest_of name written sent left (c ∷ pairs) here) result
+  built_alone waiting left written sent c pairs here (Ok done) none gone why =
+      goes_nowhere (rest_of name written sent waiting (c ∷ pairs) here) (rest_of name written sent left (c ∷ pairs) here)
+      (ap (λ (o : Option Counts). rest_of name written sent o (c ∷ pairs) here) (gone ∙ sym none))
+  built_alone {T = T} waiting left written sent c pairs here (Err refused) none gone why =
+      unbuilt T (rest_of name written sent waiting (c ∷ pairs) here) c pairs refused (ap (λ (o : Option Counts). option_to_list o ++ c ∷ pairs) none) why
+
+  -- the file that waits, of a table that is there
+  pub filed_once : {B : Type 0} (stock : Stored) (waiting left : Option Counts) (old new : List (Written B)) (c : Counts) (pairs : List Counts) (t : Table)
+      (sent now : ℕ) (here next : Place) (file : Result (Written B) Fault) (result : Result (Unit {0}) Fault)
+      → IfSome waiting (IsThere board l stock) → waiting ≡ Some c → table_on stock c ≡ Some t → left ≡ None
+      → KeepsTable board name t here.files next.files file → Tells file old new sent now here.out next.out result
+      → GoesOn board l name blocks (rest_of name old sent waiting pairs here) (rest_of name new now left pairs next) result
+  filed_once stock waiting left old new c pairs t sent now here next file result there waits has none keeps told =
+      let at = subst (λ (o : Option Counts). IfSome o (IsThere board l stock)) waits there in
+      let it = at.0.1 in
+      let same : at.0.0 ≡ t = cc in
+      let built : IsBuilt board l c t = subst (IsBuilt board l c) same (record { of_pair = at.0.2; of_layout = at.0.3; exact = at.0.4 }) in
+      subst (λ (o : Option Counts). GoesOn board l name blocks (rest_of name old sent waiting pairs here) (rest_of name new now o pairs next) result) (sym none)
+      (tells_on waiting old new c pairs t sent now here next waits built at.1 file result keeps told)
+
+  -- all pairs, with no file
+  pub begins : {B : Type 0} (written : List (Written B)) (sent : ℕ) (waiting : Option Counts) (pairs all : List Counts) (here : Place)
+      → written ≡ [] → sent ≡ 0 → waiting ≡ None → pairs ≡ all
+      → LeadsTo board l name blocks (record { pairs = all; sent = 0; digests = []; here = here }) (rest_of name written sent waiting pairs here)
+  begins written sent waiting pairs all here is_empty is_nought none same =
+      goes_nowhere (record { pairs = all; sent = 0; digests = []; here = here }) (rest_of name written sent waiting pairs here)
+      (rw (is_empty, is_nought, none, same) refl)
+
+  -- where the pairs that are left are known by another list
+  pub goes_from : {T B : Type 0} (start : Rest) (written : List (Written B)) (sent : ℕ) (waiting : Option Counts) (pairs more : List Counts) (here : Place)
+      (to : Rest) (result : Result T Fault) → pairs ≡ more → LeadsTo board l name blocks start (rest_of name written sent waiting pairs here)
+      → GoesOn board l name blocks (rest_of name written sent waiting more here) to result → GoesOn board l name blocks start to result
+  goes_from start written sent waiting pairs more here to result same leads goes =
+      goes_further start (rest_of name written sent waiting more here) to result
+      (subst (λ (ps : List Counts). LeadsTo board l name blocks start (rest_of name written sent waiting ps here)) same leads) goes
+
+  -- the pair whose table was built waits
+  pub waits : {B : Type 0} (start : Rest) (old new : List (Written B)) (sent now : ℕ) (waiting left : Option Counts) (all : List Counts) (c : Counts)
+      (pairs : List Counts) (before here : Place) → all ≡ c ∷ pairs → left ≡ None
+      → LeadsTo board l name blocks start (rest_of name old sent waiting all before)
+      → LeadsTo board l name blocks (rest_of name old sent waiting (c ∷ pairs) before) (rest_of name new now left (c ∷ pairs) here)
+      → LeadsTo board l name blocks start (rest_of name new now (Some c) pairs here)
+  waits start old new sent now waiting left all c pairs before here same none leads goes = λ kept after result fills.
+      subst (λ (ps : List Counts). LeadsTo board l name blocks start (rest_of name old sent waiting ps before)) same leads kept after result
+      (goes kept after result
+      (subst (λ (o : Option Counts). Fills board l name blocks kept (option_to_list o ++ c ∷ pairs) now (lines_of name new) here after result) (sym none) fills))
+
+  -- no pair is left
+  pub comes_to : {B : Type 0} (pair : Counts) (start next : Place) (written : List (Written B)) (sent : ℕ) (waiting : Option Counts) (result : Result (Unit {0}) Fault)
+      → OnOk result (waiting ≡ None)
+      → GoesOn board l name blocks (record { pairs = below_of pair; sent = 0; digests = []; here = start }) (rest_of name written sent waiting [] next) result
+      → (kept : List ℕ) → MatchResult result (λ _. IsFilledBut board l name pair blocks kept start next (lines_of name written))
+      (λ refused. FillsFolder board l name pair blocks kept start next (Err refused))
   unfolding Fills
-  undone start all pairs c sent digests here next t refused leads built within done =
-      leads next (Err refused) (inr (t, built, within, (next, Err refused, done, (refl, refl))))
+  comes_to pair start next written sent waiting (Ok done) none goes kept = λ after result ends.
+      inr (goes kept after result
+      (subst (λ (o : Option Counts). Fills board l name blocks kept (option_to_list o ++ []) sent (lines_of name written) next after result) (sym none) ends))
+  comes_to pair start next written sent waiting (Err refused) none goes kept = inr (goes kept)
 
-  -- all are done
-  pub all_done : (start : Place) (all : List Counts) (sent : ℕ) (digests : List ℕ) (here after : Place) (result : Result (Unit {0}) Fault)
-      → Leads start all [] sent digests here → Ends name (kept ++ digests) here after result → Fills board l name blocks kept all 0 [] start after result
-  unfolding Fills
-  all_done start all sent digests here after result leads ends = leads after result ends
-
-  -- the start, with all pairs and no file
-  pub start_leads : {B : Type 0} (ws : List (Written B)) (start : Place) (all pairs : List Counts) → ws ≡ [] → pairs ≡ all
-      → Leads start all pairs 0 (lines_of name ws) start
-  start_leads ws start all pairs none same = λ after result goes.
-      subst (λ ps. Fills board l name blocks kept ps 0 [] start after result) same
-      (subst (λ us. Fills board l name blocks kept pairs 0 (lines_of name us) start after result) none goes)
-
-  -- the pair that comes next
-  pub next_leads : (start : Place) (all pairs after : List Counts) (c : Counts) (sent : ℕ) (digests : List ℕ) (here : Place) → pairs ≡ c ∷ after
-      → Leads start all pairs sent digests here → Leads start all (c ∷ after) sent digests here
-  next_leads start all pairs after c sent digests here split leads = subst (λ ps. Leads start all ps sent digests here) split leads
-
-  -- no pair comes next
-  pub no_leads : (start : Place) (all pairs : List Counts) (sent : ℕ) (digests : List ℕ) (here : Place) → pairs ≡ []
-      → Leads start all pairs sent digests here → Leads start all [] sent digests here
-  no_leads start all pairs sent digests here none leads = subst (λ ps. Leads start all ps sent digests here) none leads
-
-  -- one that is done, and a file more
-  pub done_leads : {B : Type 0} (ws more : List (Written B)) (w : Written B) (start : Place) (all pairs : List Counts) (c : Counts)
-      (sent now : ℕ) (here next : Place) (t : Table) → Leads start all (c ∷ pairs) sent (lines_of name ws) here
-      → IsBuilt board l c t → ¬ IsBeyondCodes board c → IsFiled board name t here.files next.files → IsOf board t w
-      → AllSent here.out next.out sent now (filed_text w.pair w.entries w.bytes w.digest) → more ≡ ws ++ w ∷ []
-      → Leads start all pairs now (lines_of name more) next
-  unfolding Fills
-  done_leads ws more w start all pairs c sent now here next t leads built within filed is printed pushed = λ after result goes.
-      let told : lines_of name more ≡ lines_of name ws ++ digest_of board name t =
-      ap (lines_of name) pushed ∙ one_more name ws w ∙ ap₂ (λ p d. lines_of name ws ++ digest_line name p d) is.pair is.digest in
-      let rest = subst (λ d. Fills board l name blocks kept pairs now d next after result) told goes in
-      let done = subst (AllSent here.out next.out sent now) (line_is board t w is) printed in
-      leads after result (inr (t, built, within, (next, Ok now, inr (filed, done), rest)))
+-- the table that waits is still there once those of fewer stones are let go
+pub spares_waiting : (board : Shape) (l : Layout) (old new : Stored) (c : Counts) (waiting : Option Counts)
+    → IfSome waiting (λ last. stones c ≤ stones last + 1) → IsSpared old new c → IfSome waiting (IsThere board l old) → IfSome waiting (IsThere board l new)
+spares_waiting board l old new c None near goes there = tt
+spares_waiting board l old new c (Some last) near goes there =
+    let at = there.0 in
+    ((at.0, goes last near ∙ at.1, at.2, at.3, at.4), there.1)

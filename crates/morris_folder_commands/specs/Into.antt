@@ -100,11 +100,11 @@ Ends name digests before after (Err refused) =
 abbrev pub digest_of : Shape → List ℕ → Table → List ℕ
 digest_of board name t = digest_line name t.pair (sha256 (file_of board t))
 
--- The pairs are done one after the other: a table is built, its file written and its line printed
--- before the next pair begins. The first refusal ends it: the pair isn't built, and all is as it
--- was; or it is built and not done. `sent` bytes were printed before, and the files that were
--- written before have these digests. At the end the list has the lines that were kept, and then
--- these.
+-- The pairs are done one after the other: a table is built, its file written and its line printed,
+-- before anything is written or told of the next pair. The first refusal ends it: the pair isn't
+-- built, and all is as it was; or it is built and not done. `sent` bytes were printed before, and
+-- the files that were written before have these digests. At the end the list has the lines that
+-- were kept, and then these.
 unfoldable pub Fills : Shape → Layout → List ℕ → ℕ → List ℕ → List Counts → ℕ → List ℕ → Place → Place → Result (Unit {0}) Fault → Type 0
 Fills board l name blocks kept [] sent digests before after result = Ends name (kept ++ digests) before after result
 Fills board l name blocks kept (c ∷ pairs) sent digests before after result =

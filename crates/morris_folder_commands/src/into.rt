@@ -1,58 +1,44 @@
 //! The command `build` into a folder.
-ghost use Rattle.std.specs.Prelude.{◌≡◌, ℕ, ◌-◌, ◌^◌, ◌<◌, ◌≤◌, ◌++◌, List, [], Option, Some, true, false, is_some, length, vec_capacity, Err, IfErr, IfOk, MatchResult};
-ghost use Rattle.morris_pairs.specs.Shelves.{table_on};
+ghost use Rattle.std.specs.Prelude.{◌≡◌, ℕ, ◌-◌, ◌^◌, ◌<◌, ◌++◌, List, [], None, Option, Some, true, false, Err, IfErr, MatchResult};
 ghost use Rattle.morris_jobs.specs.Orders.{layout_asked};
 ghost use Rattle.morris_jobs.specs.Faults.{CountsWrites, is_write};
 ghost use Rattle.morris_folder_commands.specs.Causes.{HasCause, MayBeLong};
-ghost use Rattle.morris_folder_commands.specs.Filling.{IsFilledBut, KeepsTable};
-ghost use Rattle.morris_folder_commands.specs.Into.{AnswersFolder, AnswersInto, AnswersIntoOn, Ends, FillsFolder, IsAsked, filed_text, place_of};
+ghost use Rattle.morris_folder_commands.specs.Filling.{IsFilledBut};
+ghost use Rattle.morris_folder_commands.specs.Into.{AnswersFolder, AnswersInto, AnswersIntoOn, Ends, FillsFolder, IsAsked, place_of};
 ghost use Rattle.morris_jobs.specs.BoardNames.{board_of};
 ghost use Rattle.morris_files.specs.Digests.{digest_lines};
 
 use crate::entering::{begin_list, enter, step_fault};
-use crate::print_filed::Filed;
+use crate::filled::Filled;
+use crate::filling::{Filling, build_beside, file_waiting};
 use morris_board::board::{Board, Geometry};
 use morris_board::streams::Sink;
 use morris_files::digests::write_list;
 use morris_files::folder::Folder;
-use morris_files::table_file::{Written, write_table_file};
-use morris_index::below::PAIR_COUNT;
+use morris_files::table_file::Written;
 use morris_index::pair::Pair;
 use morris_jobs::fault::Fault;
 use morris_jobs::on_board;
-use morris_jobs::orders::{Order, build_onto, layout_of, spare};
+use morris_jobs::orders::{Order, layout_of, spare};
 use morris_jobs::pairs::read_pair;
-use morris_jobs::print::print_after;
 use morris_jobs::size::Way;
 use morris_jobs::team::{Crew, Team};
 use morris_jobs::teller::Teller;
 use morris_pairs::layout::Layout;
 use morris_pairs::table_set::TableSet;
-use morris_workers::Watch;
 use std::alloc::Global;
 use std::sync::Wait;
 use std::thread::Threads;
 
-/// The tables that go into a folder, and who builds them.
-#[derive_where(Clone, Copy)]
-struct Filling<'a, B: Geometry, R> {
-    crew: Crew<'a, R>,
-    // The name of the board.
-    board: &'a str,
-    // The layout of the tables.
-    layout: Layout,
-    // The pair whose table comes last, after those of all pairs below it.
-    pair: Pair<B>,
-}
-
 /// Builds the tables of all pairs below the one that the text `pair` names on the board named
-/// `board`, in order and the pair's own among them, and writes the file of each into a folder as
-/// soon as it is built, under the name of its pair; after each a line that tells its entries, its
-/// bytes and its SHA-256 goes out on `output`. The folder is made where there is none, and locked
-/// from before its first file to after its last, so that no other build is at work in it. The file
-/// of the digests first forgets the files that are replaced; at the end it has the lines of those
-/// that are not, and then those of the files that were written. Each file is written whole or not
-/// at all.
+/// `board`, in order and the pair's own among them, and writes the file of each into a folder once
+/// it is built, under the name of its pair; after each a line that tells its entries, its bytes and
+/// its SHA-256 goes out on `output`. Where there are several workers, a thread of its own writes the
+/// file while the next table is built, and its line comes after that. The folder is made where there
+/// is none, and locked from before its first file to after its last, so that no other build is at
+/// work in it. The file of the digests first forgets the files that are replaced; at the end it has
+/// the lines of those that are not, and then those of the files that were written. Each file is
+/// written whole or not at all.
 ///
 /// The rest is as [`build_out`](morris_commands::build::build_out) has it. Fewer than
 /// `u64::MAX - 1` calls of the folder may have failed before.
@@ -79,6 +65,8 @@ pub fn build_into<R: Threads + Wait + Sync, F: Folder, O: Sink, T: Teller>(
     output: &mut O,
     teller: &mut T,
 ) -> Result<(), Fault>
+where
+    F::Writer: Send,
     requires folder { F.failures folder.old < 2 ^ 64 - 2 }
     requires output { O.failures output.old < 2 ^ 64 - 1 }
     ensures answer { AnswersInto (board_of board.now) (layout_asked classes) board.now pair.now workers blocks
@@ -111,6 +99,8 @@ fn into_on<B: Board, R: Threads + Wait + Sync, F: Folder, O: Sink, T: Teller>(
     output: &mut O,
     teller: &mut T,
 ) -> Result<(), Fault>
+where
+    F::Writer: Send,
     requires folder { F.failures folder.old < 2 ^ 64 - 2 }
     requires output { O.failures output.old < 2 ^ 64 - 1 }
     // The caller's proof learns here that the board has as many points as its shape says.
@@ -142,6 +132,8 @@ fn into_folder<B: Board, R: Threads + Wait + Sync, F: Folder, O: Sink, T: Teller
     output: &mut O,
     teller: &mut T,
 ) -> Result<(), Fault>
+where
+    F::Writer: Send,
     requires folder { F.failures folder.old < 2 ^ 64 - 2 }
     requires output { O.failures output.old < 2 ^ 64 - 1 }
     ensures points { B.shape.points ≡ B.POINTS }
@@ -166,6 +158,8 @@ fn fill_locked<B: Board, R: Threads + Wait + Sync, F: Folder, O: Sink, T: Teller
     output: &mut O,
     teller: &mut T,
 ) -> Result<(), Fault>
+where
+    F::Writer: Send,
     requires folder { F.failures folder.old < 2 ^ 64 - 2 }
     requires locked { F.locked folder.old ≡ true }
     requires output { O.failures output.old < 2 ^ 64 - 1 }
@@ -194,6 +188,8 @@ fn fill<B: Board, R: Threads + Wait + Sync, F: Folder, O: Sink, T: Teller>(
     output: &mut O,
     teller: &mut T,
 ) -> Result<Vec<Written<B>>, Fault>
+where
+    F::Writer: Send,
     requires folder { F.failures folder.old < 2 ^ 64 - 2 }
     requires locked { F.locked folder.old ≡ true }
     requires output { O.failures output.old < 2 ^ 64 - 1 }
@@ -210,33 +206,37 @@ fn fill<B: Board, R: Threads + Wait + Sync, F: Folder, O: Sink, T: Teller>(
     ensures told { T.becomes teller.old teller.new }
 {
     let Crew { alloc, team, .. } = filling.crew;
-    let mut written = Vec::with_capacity(alloc, PAIR_COUNT)?;
+    let mut filled = Filled::new(alloc)?;
     let mut stock = TableSet::new(alloc)?;
     let way = Way::Built { team, all: false };
     teller.announce(filling.pair, filling.layout, way);
-    add_files(filling, &mut stock, &mut written, folder, output, teller)?;
+    add_files(filling, &mut stock, &mut filled, folder, output, teller)?;
+    let Filled { written, .. } = filled;
     Ok(written)
 }
 
-/// Fills a folder that is there over a set of tables, and adds to `written`, which is empty and has
-/// room for all, what is told of each file.
+/// Fills a folder that is there over a set of tables. Where there are several workers, the file of
+/// a table is written while the next one is built.
 fn add_files<B: Board, R: Threads + Wait + Sync, F: Folder, O: Sink, T: Teller>(
     filling: &Filling<'_, B, R>,
     stock: &mut TableSet<B>,
-    written: &mut Vec<Written<B>>,
+    filled: &mut Filled<B>,
     folder: &mut F,
     output: &mut O,
     teller: &mut T,
 ) -> Result<(), Fault>
+where
+    F::Writer: Send,
     requires folder { F.failures folder.old < 2 ^ 64 - 2 }
     requires locked { F.locked folder.old ≡ true }
     requires output { O.failures output.old < 2 ^ 64 - 1 }
-    requires empty { written.old.items ≡ [] }
-    requires room { vec_capacity written.old ≡ 28 }
+    requires none { filled.old.written.items ≡ [] }
+    requires sent { filled.old.sent ≡ 0 }
+    requires waiting { filled.old.waiting ≡ None }
     ensures filled { (kept : List ℕ) → MatchResult result
         (λ _. IsFilledBut B.shape filling.now.layout filling.now.board.now filling.now.pair filling.now.crew.team.blocks kept
         (place_of (F.files folder.old) (O.contents output.old)) (place_of (F.files folder.new) (O.contents output.new))
-        (digest_lines filling.now.board.now (λ w. w.pair) (λ w. w.digest) written.new.items))
+        (digest_lines filling.now.board.now (λ w. w.pair) (λ w. w.digest) filled.new.written.items))
         (λ refused. FillsFolder B.shape filling.now.layout filling.now.board.now filling.now.pair filling.now.crew.team.blocks kept
         (place_of (F.files folder.old) (O.contents output.old)) (place_of (F.files folder.new) (O.contents output.new)) (Err refused)) }
     ensures locked { F.locked folder.new ≡ true }
@@ -244,52 +244,16 @@ fn add_files<B: Board, R: Threads + Wait + Sync, F: Folder, O: Sink, T: Teller>(
     ensures counted { CountsWrites (O.failures output.old) (O.failures output.new) result }
     ensures told { T.becomes teller.old teller.new }
 {
-    let Filling {
-        crew,
-        board,
-        layout,
-        pair,
-    } = *filling;
-    let mut sent = 0;
-    for below in pair.below() {
+    for below in filling.pair.below() {
         spare(stock, false, below);
-        build_onto(crew, stock, layout, below, teller)?;
-        let file = keep_table(crew.alloc, board, stock, below, folder, teller)?;
-        sent = print_after(&Filed { file: &file }, sent, output)?;
-        written.push_reserved(file);
-    }
-    Ok(())
-}
-
-/// Writes the file of the table that a stock has of a pair into a folder.
-fn keep_table<B: Geometry, F: Folder, W: Watch>(
-    alloc: Global,
-    board: &str,
-    stock: &TableSet<B>,
-    pair: Pair<B>,
-    folder: &mut F,
-    watch: &mut W,
-) -> Result<Written<B>, Fault>
-    requires failures { F.failures folder.old < 2 ^ 64 - 2 }
-    requires locked { F.locked folder.old ≡ true }
-    requires there { is_some (table_on stock.now pair) ≡ true }
-    ensures kept { KeepsTable B.shape board.now (table_on stock.now pair) (F.files folder.old) (F.files folder.new) result }
-    ensures short { IfOk result (λ file. length (filed_text file.pair file.entries file.bytes file.digest) ≤ 2 ^ 10) }
-    ensures locked { F.locked folder.new ≡ true }
-    ensures caused { HasCause F.Reader.failures F.Writer.failures (Some false) ⊥ (F.failures folder.old) (F.failures folder.new) result }
-    ensures unwritten { IfErr result (λ refused. is_write refused ≡ false) }
-    ensures told { W.becomes watch.old watch.new }
-{
-    let Some(table) = stock.get(pair) else {
-        unreachable!()
-    };
-    match write_table_file(alloc, folder, board, table, watch) {
-        Ok(written) => Ok(written),
-        Err(fault) => {
-            let unwritten = Fault::Unwritten(pair.greater(), pair.lesser());
-            Err(step_fault(unwritten, fault.step))
+        let table = build_beside(filling, filled, stock, below, folder, output, teller)?;
+        stock.put(table);
+        filled.waiting = Some(below);
+        if filling.crew.team.workers == 1 {
+            file_waiting(filling, filled, stock, folder, output, teller)?;
         }
     }
+    file_waiting(filling, filled, stock, folder, output, teller)
 }
 
 /// Writes the file of the digests: lines that were kept, and those of these files.

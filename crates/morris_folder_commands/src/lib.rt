@@ -5,6 +5,8 @@
 mod ahead;
 pub mod bundle;
 mod entering;
+mod filled;
+mod filling;
 pub mod from;
 pub mod into;
 mod places;

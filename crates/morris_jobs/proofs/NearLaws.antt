@@ -1,12 +1,13 @@
 -- The tables that stay while those that no pair to come needs are let go.
-use Rattle.std.proofs.Common.{◌≡◌, ◌≢◌, ℕ, ◌+◌, ◌-◌, ◌<◌, ◌≤◌, Bool, true, false, ◌&&◌, leb, ltb, nat_le, List, [], ◌∷◌, ◌++◌, None, is_some, refl, sym, ap, ◌∙◌, subst, inl, inr, arith}
+use Rattle.std.proofs.Common.{◌≡◌, ◌≢◌, ℕ, ◌+◌, ◌-◌, ◌<◌, ◌≤◌, Bool, true, false, ◌&&◌, leb, ltb, nat_le, List, [], ◌∷◌, ◌++◌, Option, Some, None, is_some, refl, sym, ap, ◌∙◌, subst, inl, inr, arith}
+use Rattle.std.specs.Prelude.{IfSome, option_to_list}
 use Rattle.std.specs.List.{Contains, list_all}
-use Rattle.std.proofs.lemmas.Bool.{and_parts, cond-false, cond-true, le-leb, leb-true, ltb-true}
+use Rattle.std.proofs.lemmas.Bool.{and_parts, cond-false, cond-true, le-leb, leb-true, ltb-false, ltb-true}
 use Rattle.std.proofs.lemmas.List.Elements.{Contains-append_left, Contains-append_right, Contains-push_cases}
 use Rattle.std.proofs.lemmas.Option.{cond_some}
 use Rattle.morris_moves.proofs.ListLaws.{Ascends, Contains-cons_cases, Contains-head, all_contained}
 use Rattle.morris_board.specs.Boards.{Shape}
-use Rattle.morris_index.specs.Pairs.{Counts, NeedsFirst, all_pairs, below_of, counts, is_below, needed}
+use Rattle.morris_index.specs.Pairs.{Counts, NeedsFirst, all_pairs, below_of, counts, is_below, less_greater, less_lesser, needed}
 use Rattle.morris_pairs.specs.declared.layout.Layout.{Layout}
 use Rattle.morris_pairs.specs.Shelves.{Stored, first_missing, kept_from, table_on}
 use Rattle.morris_pairs.proofs.BackLawsLists.{Ascends-filter}
@@ -59,6 +60,54 @@ needs-one_less c d m = elim (needed_cases c d m) [
       let more : c.lesser < c.greater = ltb-true c.lesser c.greater is.0 in
       omega (arith, more, ap stones is.1)
 ]
+
+-- A pair has at most one stone more than one before it that has the most: it needs one of those, or
+-- it has the fewest stones.
+pub follows : (pair : Counts) (before after : List Counts) (c last : Counts) → NeedsFirst (below_of pair) → before ++ (c ∷ after) ≡ below_of pair
+    → ((d : Counts) → Contains before d → stones d ≤ stones last) → 6 ≤ stones last → stones c ≤ stones last + 1
+follows pair before after c last order split most six = by_lesser (ltb 3 c.lesser) refl
+  where
+    within : (need : Counts) → Contains (needed c) need → stones c ≤ stones last + 1
+    within need m =
+        let up = needs-one_less c need m in
+        omega (arith, up, most need (order before after c need (sym split) m))
+
+    by_greater : (b : Bool) → ltb c.lesser c.greater ≡ b → c.lesser ≤ 3 → stones c ≤ stones last + 1
+    by_greater true more few =
+        let need = counts (c.greater - 1) c.lesser in
+        let is : less_greater c ≡ Some need = cond-true (ltb c.lesser c.greater) (Some need) None more in
+        within need
+        (Contains-append_right (option_to_list (less_lesser c)) (option_to_list (less_greater c)) need
+        (subst (λ (o : Option Counts). Contains (option_to_list o) need) (sym is) (Contains-head need [])))
+    by_greater false even few =
+        let no_more : c.greater ≤ c.lesser = ltb-false c.lesser c.greater even in
+        omega (arith, no_more, few, six)
+
+    by_lesser : (b : Bool) → ltb 3 c.lesser ≡ b → stones c ≤ stones last + 1
+    by_lesser true more =
+        let need = counts c.greater (c.lesser - 1) in
+        let is : less_lesser c ≡ Some need = cond-true (ltb 3 c.lesser) (Some need) None more in
+        within need
+        (Contains-append_left (option_to_list (less_lesser c)) (option_to_list (less_greater c)) need
+        (subst (λ (o : Option Counts). Contains (option_to_list o) need) (sym is) (Contains-head need [])))
+    by_lesser false few = by_greater (ltb c.lesser c.greater) refl (ltb-false 3 c.lesser few)
+
+-- and with it none before has more
+pub most_last : (pair : Counts) (before after : List Counts) (c d : Counts) → before ++ (c ∷ after) ≡ below_of pair → Contains (before ++ c ∷ []) d → stones d ≤ stones c
+most_last pair before after c d split m = elim (Contains-push_cases before c d m) [
+  | inl earlier ↦ below-rises pair before after c d split earlier
+  | inr is ↦ omega (arith, ap stones is)
+]
+
+-- a pair has no fewer stones than any of these, and no fewer than a pair may have
+abbrev pub IsLast : List Counts → Counts → Type 0
+IsLast done last = ((d : Counts) → Contains done d → stones d ≤ stones last) × (6 ≤ stones last)
+
+-- the next pair has at most one stone more than that one
+pub last_near : (pair : Counts) (before after : List Counts) (c : Counts) (waiting : Option Counts) → NeedsFirst (below_of pair)
+    → before ++ (c ∷ after) ≡ below_of pair → IfSome waiting (IsLast before) → IfSome waiting (λ last. stones c ≤ stones last + 1)
+last_near pair before after c None order split last = tt
+last_near pair before after c (Some d) order split last = follows pair before after c d order split last.0 last.1
 
 -- a pair to come may need the table of this one: none of those so far has two stones more
 abbrev pub IsNear : List Counts → Counts → Type 0

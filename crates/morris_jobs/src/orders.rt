@@ -1,6 +1,7 @@
 //! The tables that are asked for, and how one of them after the other is built or verified.
 ghost use Rattle.std.specs.Prelude.{◌≡◌, ◌≢◌, None, true, false, IfErr, IfOk, OnOk};
 ghost use Rattle.morris_index.specs.Pairs.{Counts};
+ghost use Rattle.morris_pairs.specs.Building.{IsBuilt};
 ghost use Rattle.morris_pairs.specs.Known.{IsBeyondCodes};
 ghost use Rattle.morris_pairs.specs.Shelves.{first_missing, table_on};
 ghost use Rattle.morris_pairs.specs.Tables.{IsTable};
@@ -57,6 +58,29 @@ pub fn spare<B: Geometry>(stock: &mut TableSet<B>, all: bool, pair: Pair<B>)
     }
 }
 
+/// Builds the table of a pair in a layout over a set of tables that has those that it needs.
+pub fn build_over<B: Board, R: Threads + Wait + Sync, T: Teller>(
+    crew: Crew<'_, R>,
+    stock: &TableSet<B>,
+    layout: Layout,
+    pair: Pair<B>,
+    teller: &mut T,
+) -> Result<Exact<B>, Fault>
+    requires ready { first_missing stock.now pair ≡ None }
+    ensures built { IfOk result (IsBuilt B.shape layout pair) }
+    ensures refused { IfErr result (IsUnbuiltAt B.shape pair crew.entry.team.blocks) }
+    ensures told { T.becomes teller.old teller.new }
+{
+    let Crew { rt, alloc, team } = crew;
+    let (gate, workers, blocks) = (&OpenGate, team.workers, team.blocks);
+    teller.begin_pair(pair);
+    let table = build_watched(
+        rt, alloc, stock, pair, layout, gate, teller, workers, blocks,
+    )?;
+    teller.end_pair(&table);
+    Ok(table)
+}
+
 /// Puts the table of a pair in a layout into a set of tables that has those that it needs.
 pub fn build_onto<B: Board, R: Threads + Wait + Sync, T: Teller>(
     crew: Crew<'_, R>,
@@ -72,13 +96,7 @@ pub fn build_onto<B: Board, R: Threads + Wait + Sync, T: Teller>(
     ensures refused { IfErr result (IsUnbuiltAt B.shape pair crew.entry.team.blocks) }
     ensures told { T.becomes teller.old teller.new }
 {
-    let Crew { rt, alloc, team } = crew;
-    let (gate, workers, blocks) = (&OpenGate, team.workers, team.blocks);
-    teller.begin_pair(pair);
-    let table = build_watched(
-        rt, alloc, stock, pair, layout, gate, teller, workers, blocks,
-    )?;
-    teller.end_pair(&table);
+    let table = build_over(crew, stock, layout, pair, teller)?;
     stock.put(table);
     Ok(())
 }

@@ -1,209 +1,297 @@
 -- The pairs are done one after the other.
-use Rattle.std.proofs.Common.{rules, ◌≡◌, ◌∷◌, [], ◌++◌, Option, Some, false, Ok, Err, length, length-append, refl, sym, ap, subst, ◌∙◌, inl, inr, arith, append_assoc}
-use Rattle.std.proofs.KnownBytes.{Keeps-refl}
+use Rattle.std.proofs.Common.{◌≡◌, ℕ, ◌∷◌, [], ◌++◌, Option, Some, None, Ok, Err, false, length, length-append, refl, sym, ap, subst, ◌∙◌, inr, arith, append_assoc}
+use Rattle.std.specs.Prelude.{IfSome, option_to_list}
 use Rattle.std.proofs.lemmas.Result.{err_from_is_err_and}
-use Rattle.morris_jobs.specs.Faults.{PrintsLine}
-use Rattle.morris_index.specs.Pairs.{below_of}
-use Rattle.morris_pairs.specs.Tables.{Table}
-use Rattle.morris_folder_commands.specs.Filling.{IsOf, KeepsTable}
-use Rattle.morris_folder_commands.specs.Into.{IsBuilt, IsFiled, IsUnfiled, filed_text, place_of}
-use Rattle.morris_folder_commands.proofs.CauseLaws.{caused_on, line_caused, unbuilt_caused}
-use Rattle.morris_folder_commands.proofs.FillLaws.{all_done, done_leads, line_is, lines_of, next_leads, no_leads, start_leads, unbuilt, undone}
-use Rattle.morris_jobs.proofs.NearLaws.{near-more, near-ready}
+use Rattle.morris_index.specs.Pairs.{Counts, below_of}
+use Rattle.morris_pairs.specs.Shelves.{table_on}
+use Rattle.morris_jobs.specs.Faults.{CountsWrites}
+use Rattle.morris_jobs.specs.Orders.{HasExactAt, stones}
+use Rattle.morris_jobs.proofs.NearLaws.{IsLast, last_near, most_last, near-more, near-ready}
+use Rattle.morris_folder_commands.specs.Filling.{IsThere, Rest, rest_of}
+use Rattle.morris_folder_commands.specs.Into.{place_of}
+use Rattle.morris_folder_commands.proofs.CauseLaws.{cause_on, caused_on}
+use Rattle.morris_folder_commands.proofs.FillLaws.{begins, comes_to, goes_from, goes_further, spares_waiting, waits}
 use Rattle.morris_folder_commands.proofs.into.add_files.Goals as goal
-
-pub build_onto-requires-clause-ready : goal.build_onto-requires-clause-ready
-build_onto-requires-clause-ready g c = λ κs within.
-    near-ready g.B.Geometry.shape c.args.filling.now.layout c.args.filling.now.pair c.loop-below.yielded c.next.new.self c.in-Some.below c.below-below-items.ensures.needs_first
-    (ap (λ rest. c.loop-below.yielded ++ rest) (sym c.in-Some.ensures.steps) ∙ c.loop-below.invariant.split)
-    c.loop-below.stock c.spare.new.stock c.loop-below.invariant.near c.spare.ensures.near
 
 pub loop-below-init : goal.loop-below-init
 loop-below-init g c =
-    let whole : c.into_iter-below-iterator.result ≡ below_of c.args.filling.now.pair = search rules in
+    let whole = c.into_iter-below-iterator.ensures.into_iter_gives ∙ c.below-below-items.ensures.pairs in
+    let none = c.requires.waiting in
     record {
       split = whole;
       near = λ other m near. absurd (omega (arith, m.1));
-      leads = λ stays.
-          start_leads g.B.Geometry.shape c.args.filling.now.layout c.args.filling.now.board.now c.args.filling.now.crew.team.blocks stays c.args.written.now.items
-          (place_of (g.F.Folder.files c.args.folder.now) (g.O.Sink.contents c.args.output.now)) (below_of c.args.filling.now.pair)
-          c.into_iter-below-iterator.result c.requires.empty whole;
-      room = c.requires.room;
-      count = omega (arith, c.args.written.now.ok.0, ap length c.requires.empty);
-      few = omega arith;
+      there = subst (λ (o : Option Counts). IfSome o (IsThere g.B.Geometry.shape c.args.filling.now.layout c.args.stock.now)) (sym none) tt;
+      last = subst (λ (o : Option Counts). IfSome o (IsLast [])) (sym none) tt;
+      leads = begins g.B.Geometry.shape c.args.filling.now.layout c.args.filling.now.board.now c.args.filling.now.crew.team.blocks c.args.filled.now.written.items
+          c.args.filled.now.sent c.args.filled.now.waiting c.into_iter-below-iterator.result (below_of c.args.filling.now.pair)
+          (place_of (g.F.Folder.files c.args.folder.now) (g.O.Sink.contents c.args.output.now)) c.requires.none c.requires.sent none whole;
+      count = omega (arith, ap length c.requires.none, ap (λ (o : Option Counts). length (option_to_list o)) none, c.args.filled.now.written.ok.0);
       locked = c.requires.locked;
       unfailed = refl;
       uncounted = refl;
       told = g.met.T.Watch.stays c.args.teller.now;
     }
 
--- a pair that isn't built
-pub returns-in_err-build_onto-clause-filled : goal.returns-in_err-build_onto-clause-filled
-returns-in_err-build_onto-clause-filled g c = λ stays.
+-- ---- what is asked of the calls
+
+-- the table whose file waits isn't let go
+pub build_beside-requires-clause-there : goal.build_beside-requires-clause-there
+build_beside-requires-clause-there g c = λ κs within.
+    let l = c.loop-below in
+    let split = ap (λ rest. l.yielded ++ rest) (sym c.in-Some.ensures.steps) ∙ l.invariant.split in
+    let near = last_near c.args.filling.now.pair l.yielded c.next.new.self c.in-Some.below l.filled.waiting c.below-below-items.ensures.needs_first split
+    l.invariant.last in
+    spares_waiting g.B.Geometry.shape c.args.filling.now.layout l.stock c.spare.new.stock c.in-Some.below l.filled.waiting near c.spare.ensures.near
+    l.invariant.there
+
+pub build_beside-requires-clause-room : goal.build_beside-requires-clause-room
+build_beside-requires-clause-room g c = λ κs within.
+    let l = c.loop-below in
+    omega (arith, l.invariant.count, ap length l.invariant.split, length-append l.yielded l.below-iterator, c.below-below-items.ensures.few)
+
+pub build_beside-requires-clause-ready : goal.build_beside-requires-clause-ready
+build_beside-requires-clause-ready g c = λ κs within.
+    near-ready g.B.Geometry.shape c.args.filling.now.layout c.args.filling.now.pair c.loop-below.yielded c.next.new.self c.in-Some.below c.below-below-items.ensures.needs_first
+    (ap (λ rest. c.loop-below.yielded ++ rest) (sym c.in-Some.ensures.steps) ∙ c.loop-below.invariant.split)
+    c.loop-below.stock c.spare.new.stock c.loop-below.invariant.near c.spare.ensures.near
+
+pub file_waiting-requires-clause-there : goal.file_waiting-requires-clause-there
+file_waiting-requires-clause-there g c =
+    let t = c.in_ok-table.table in
+    let b = c.in_ok-table.ensures.built in
+    ((t, subst (λ (p : Counts). table_on c.put.new.self p ≡ Some t) b.pair c.put.ensures.this, b.pair, b.layout, b.exact), b.within)
+
+pub file_waiting-requires-clause-room : goal.file_waiting-requires-clause-room
+file_waiting-requires-clause-room g c =
+    let l = c.loop-below in
+    let split = ap (λ rest. l.yielded ++ rest) (sym c.in-Some.ensures.steps) ∙ l.invariant.split in
+    omega (
+      arith,
+      c.in_ok-table.ensures.count,
+      l.invariant.count,
+      ap length split,
+      length-append l.yielded (c.in-Some.below ∷ c.next.new.self),
+      c.below-below-items.ensures.few,
+    )
+
+pub file_waiting-requires-2-clause-there : goal.file_waiting-requires-2-clause-there
+file_waiting-requires-2-clause-there g c = c.loop-below.invariant.there
+
+pub file_waiting-requires-2-clause-room : goal.file_waiting-requires-2-clause-room
+file_waiting-requires-2-clause-room g c =
+    let l = c.loop-below in
+    omega (arith, l.invariant.count, ap length l.invariant.split, length-append l.yielded l.below-iterator, c.below-below-items.ensures.few)
+
+-- ---- a refusal
+
+-- of the pair, or of the file before it
+pub returns-in_err-table-clause-filled : goal.returns-in_err-table-clause-filled
+returns-in_err-table-clause-filled g c = λ kept.
     let failed = err_from_is_err_and c.from_residual.result c.from_residual.ensures.1 in
-    let board = g.B.Geometry.shape in
-    let name = c.args.filling.now.board.now in
-    let blocks = c.args.filling.now.crew.team.blocks in
-    let start = place_of (g.F.Folder.files c.args.folder.now) (g.O.Sink.contents c.args.output.now) in
-    let all = below_of c.args.filling.now.pair in
-    let pair = c.in-Some.below in
+    let filling = c.args.filling.now in
     let l = c.loop-below in
-    let here = place_of (g.F.Folder.files l.folder) (g.O.Sink.contents l.output) in
-    let digests = lines_of name l.written.items in
-    let leads = next_leads board c.args.filling.now.layout name blocks stays start all _ c.next.new.self pair l.sent digests here c.in-Some.ensures.steps (l.invariant.leads stays) in
+    let new = c.build_beside.new.filled in
+    let pairs = c.in-Some.below ∷ c.next.new.self in
+    let start : Rest = record {
+      pairs = below_of filling.pair;
+      sent = 0;
+      digests = [];
+      here = place_of (g.F.Folder.files c.args.folder.now) (g.O.Sink.contents c.args.output.now);
+    } in
     rw (failed.1, failed.2)
-    (inr (unbuilt board c.args.filling.now.layout name blocks stays start all c.next.new.self pair l.sent digests here _ leads c.in_err-build_onto.ensures.refused))
+    (inr (goes_from g.B.Geometry.shape filling.layout filling.board.now filling.crew.team.blocks {T = Unit {0}} start l.filled.written.items l.filled.sent l.filled.waiting
+    l.below-iterator pairs (place_of (g.F.Folder.files l.folder) (g.O.Sink.contents l.output))
+    (rest_of filling.board.now new.written.items new.sent new.waiting pairs
+    (place_of (g.F.Folder.files c.build_beside.new.folder) (g.O.Sink.contents c.build_beside.new.output)))
+    (Err c.in_err-table.field-0.0) c.in-Some.ensures.steps l.invariant.leads (c.in_err-table.ensures.filled c.next.new.self) kept))
 
--- one whose file isn't written
-pub returns-in_err-file-clause-filled : goal.returns-in_err-file-clause-filled
-returns-in_err-file-clause-filled g c = λ stays.
-    let failed = err_from_is_err_and c.from_residual-in_err-file.result c.from_residual-in_err-file.ensures.1 in
+pub returns-in_err-table-clause-caused : goal.returns-in_err-table-clause-caused
+returns-in_err-table-clause-caused g c =
+    let failed = err_from_is_err_and c.from_residual.result c.from_residual.ensures.1 in
+    rw (failed.1, failed.2)
+    (caused_on g.F.Reader.Source.failures g.F.Writer.Sink.failures (Some false) (Some false) ⊥ ⊥ (g.F.Folder.failures c.args.folder.now)
+    (g.F.Folder.failures c.loop-below.folder) (g.F.Folder.failures c.build_beside.new.folder) c.loop-below.invariant.unfailed (λ h. h) (λ h. h)
+    c.in_err-table.field-0.0 c.in_err-table.ensures.caused)
+
+pub returns-in_err-table-clause-counted : goal.returns-in_err-table-clause-counted
+returns-in_err-table-clause-counted g c =
+    let failed = err_from_is_err_and c.from_residual.result c.from_residual.ensures.1 in
+    rw (failed.1, failed.2)
+    (subst (λ (n : ℕ). CountsWrites {T = Unit {0}} n (g.O.Sink.failures c.build_beside.new.output) (Err c.in_err-table.field-0.0)) c.loop-below.invariant.uncounted
+    c.in_err-table.ensures.counted)
+
+pub returns-in_err-table-clause-told : goal.returns-in_err-table-clause-told
+returns-in_err-table-clause-told g c = g.met.T.Watch.joins _ _ _ c.loop-below.invariant.told c.build_beside.ensures.told
+
+-- of the pair's own file, where there is one worker
+pub returns-in_err-file_waiting-clause-filled : goal.returns-in_err-file_waiting-clause-filled
+returns-in_err-file_waiting-clause-filled g c = λ kept.
+    let failed = err_from_is_err_and c.from_residual-in_err-file_waiting.result c.from_residual-in_err-file_waiting.ensures.1 in
     let board = g.B.Geometry.shape in
-    let name = c.args.filling.now.board.now in
-    let blocks = c.args.filling.now.crew.team.blocks in
-    let start = place_of (g.F.Folder.files c.args.folder.now) (g.O.Sink.contents c.args.output.now) in
-    let all = below_of c.args.filling.now.pair in
-    let pair = c.in-Some.below in
+    let filling = c.args.filling.now in
     let l = c.loop-below in
-    let here = place_of (g.F.Folder.files l.folder) (g.O.Sink.contents l.output) in
-    let digests = lines_of name l.written.items in
-    let leads = next_leads board c.args.filling.now.layout name blocks stays start all _ c.next.new.self pair l.sent digests here c.in-Some.ensures.steps (l.invariant.leads stays) in
-    let exact = c.in_ok-build_onto.ensures.exact in
-    let t = exact.0 in
-    let built : IsBuilt board c.args.filling.now.layout pair t = record { of_pair = exact.2; of_layout = exact.3; exact = exact.4 } in
-    let within = c.in_ok-build_onto.ensures.within in
-    let files = g.F.Folder.files c.keep_table.new.folder in
-    let after = place_of files (g.O.Sink.contents l.output) in
-    let refused = c.in_err-file.field-0.0 in
-    let unfiled : IsUnfiled board name t here.files files refused =
-    subst (λ (o : Option Table). KeepsTable {B = g.row.B.Denot} board name o here.files files (Err refused)) exact.1 c.in_err-file.ensures.kept in
-    rw (failed.1, failed.2)
-    (inr (undone board c.args.filling.now.layout name blocks stays start all c.next.new.self pair l.sent digests here after t refused leads built within
-    (inl (refused, refl, unfiled, Keeps-refl here.out))))
-
--- one whose line isn't printed
-pub returns-in_err-sent-clause-filled : goal.returns-in_err-sent-clause-filled
-returns-in_err-sent-clause-filled g c = λ stays.
-    let failed = err_from_is_err_and c.from_residual-in_err-sent.result c.from_residual-in_err-sent.ensures.1 in
-    let board = g.B.Geometry.shape in
-    let name = c.args.filling.now.board.now in
-    let blocks = c.args.filling.now.crew.team.blocks in
-    let start = place_of (g.F.Folder.files c.args.folder.now) (g.O.Sink.contents c.args.output.now) in
-    let all = below_of c.args.filling.now.pair in
     let pair = c.in-Some.below in
-    let l = c.loop-below in
-    let here = place_of (g.F.Folder.files l.folder) (g.O.Sink.contents l.output) in
-    let digests = lines_of name l.written.items in
-    let leads = next_leads board c.args.filling.now.layout name blocks stays start all _ c.next.new.self pair l.sent digests here c.in-Some.ensures.steps (l.invariant.leads stays) in
-    let exact = c.in_ok-build_onto.ensures.exact in
-    let t = exact.0 in
-    let built : IsBuilt board c.args.filling.now.layout pair t = record { of_pair = exact.2; of_layout = exact.3; exact = exact.4 } in
-    let within = c.in_ok-build_onto.ensures.within in
-    let files = g.F.Folder.files c.keep_table.new.folder in
-    let out = g.O.Sink.contents c.print_after.new.output in
-    let after = place_of files out in
-    let refused = c.in_err-sent.field-0.0 in
-    let w = c.in_ok-file.file in
-    let kept : IsFiled board name t here.files files × IsOf board t w =
-    subst (λ (o : Option Table). KeepsTable board name o here.files files (Ok w)) exact.1 c.in_ok-file.ensures.kept in
-    let printed = subst (λ text. PrintsLine text l.sent here.out out (Err refused)) (line_is board t w kept.1) c.in_err-sent.ensures.printed in
+    let rest = c.next.new.self in
+    let new = c.build_beside.new.filled in
+    let here = place_of (g.F.Folder.files c.build_beside.new.folder) (g.O.Sink.contents c.build_beside.new.output) in
+    let start : Rest = record {
+      pairs = below_of filling.pair;
+      sent = 0;
+      digests = [];
+      here = place_of (g.F.Folder.files c.args.folder.now) (g.O.Sink.contents c.args.output.now);
+    } in
+    let leads = waits board filling.layout filling.board.now filling.crew.team.blocks start l.filled.written.items new.written.items l.filled.sent new.sent
+    l.filled.waiting new.waiting l.below-iterator pair rest (place_of (g.F.Folder.files l.folder) (g.O.Sink.contents l.output)) here c.in-Some.ensures.steps
+    c.in_ok-table.ensures.none l.invariant.leads (c.in_ok-table.ensures.filled rest) in
+    let more = c.file_waiting.new.filled in
+    let next = place_of (g.F.Folder.files c.file_waiting.new.folder) (g.O.Sink.contents c.file_waiting.new.output) in
     rw (failed.1, failed.2)
-    (inr (undone board c.args.filling.now.layout name blocks stays start all c.next.new.self pair l.sent digests here after t refused leads built within
-    (inr (kept.0, printed))))
+    (inr (goes_further board filling.layout filling.board.now filling.crew.team.blocks {T = Unit {0}} start (rest_of filling.board.now new.written.items new.sent (Some pair) rest here)
+    (rest_of filling.board.now more.written.items more.sent more.waiting rest next) (Err c.in_err-file_waiting.field-0.0) leads
+    (c.in_err-file_waiting.ensures.filled rest) kept))
 
--- one that is done
+pub returns-in_err-file_waiting-clause-caused : goal.returns-in_err-file_waiting-clause-caused
+returns-in_err-file_waiting-clause-caused g c =
+    let failed = err_from_is_err_and c.from_residual-in_err-file_waiting.result c.from_residual-in_err-file_waiting.ensures.1 in
+    rw (failed.1, failed.2)
+    (caused_on g.F.Reader.Source.failures g.F.Writer.Sink.failures (Some false) (Some false) ⊥ ⊥ (g.F.Folder.failures c.args.folder.now)
+    (g.F.Folder.failures c.build_beside.new.folder) (g.F.Folder.failures c.file_waiting.new.folder)
+    (c.in_ok-table.ensures.caused ∙ c.loop-below.invariant.unfailed) (λ h. h) (λ h. h) c.in_err-file_waiting.field-0.0 c.in_err-file_waiting.ensures.caused)
+
+pub returns-in_err-file_waiting-clause-counted : goal.returns-in_err-file_waiting-clause-counted
+returns-in_err-file_waiting-clause-counted g c =
+    let failed = err_from_is_err_and c.from_residual-in_err-file_waiting.result c.from_residual-in_err-file_waiting.ensures.1 in
+    rw (failed.1, failed.2)
+    (subst (λ (n : ℕ). CountsWrites {T = Unit {0}} n (g.O.Sink.failures c.file_waiting.new.output) (Err c.in_err-file_waiting.field-0.0))
+    (c.in_ok-table.ensures.counted ∙ c.loop-below.invariant.uncounted) c.in_err-file_waiting.ensures.counted)
+
+pub returns-in_err-file_waiting-clause-told : goal.returns-in_err-file_waiting-clause-told
+returns-in_err-file_waiting-clause-told g c =
+    g.met.T.Watch.joins _ _ _ (g.met.T.Watch.joins _ _ _ c.loop-below.invariant.told c.build_beside.ensures.told) c.file_waiting.ensures.told
+
+-- ---- the next pair
+
 pub loop-below-preserved : goal.loop-below-preserved
 loop-below-preserved g c =
     let board = g.B.Geometry.shape in
-    let name = c.args.filling.now.board.now in
-    let blocks = c.args.filling.now.crew.team.blocks in
-    let start = place_of (g.F.Folder.files c.args.folder.now) (g.O.Sink.contents c.args.output.now) in
-    let all = below_of c.args.filling.now.pair in
-    let pair = c.in-Some.below in
+    let filling = c.args.filling.now in
     let l = c.loop-below in
-    let here = place_of (g.F.Folder.files l.folder) (g.O.Sink.contents l.output) in
-    let digests = lines_of name l.written.items in
-    let exact = c.in_ok-build_onto.ensures.exact in
-    let t = exact.0 in
-    let built : IsBuilt board c.args.filling.now.layout pair t = record { of_pair = exact.2; of_layout = exact.3; exact = exact.4 } in
-    let within = c.in_ok-build_onto.ensures.within in
-    let files = g.F.Folder.files c.keep_table.new.folder in
-    let out = g.O.Sink.contents c.print_after.new.output in
-    let next = place_of files out in
-    let w = c.in_ok-file.file in
-    let kept : IsFiled board name t here.files files × IsOf board t w =
-    subst (λ (o : Option Table). KeepsTable board name o here.files files (Ok w)) exact.1 c.in_ok-file.ensures.kept in
+    let pair = c.in-Some.below in
+    let rest = c.next.new.self in
+    let new = c.build_beside.new.filled in
+    let here = place_of (g.F.Folder.files c.build_beside.new.folder) (g.O.Sink.contents c.build_beside.new.output) in
+    let start : Rest = record {
+      pairs = below_of filling.pair;
+      sent = 0;
+      digests = [];
+      here = place_of (g.F.Folder.files c.args.folder.now) (g.O.Sink.contents c.args.output.now);
+    } in
+    let leads = waits board filling.layout filling.board.now filling.crew.team.blocks start l.filled.written.items new.written.items l.filled.sent new.sent
+    l.filled.waiting new.waiting l.below-iterator pair rest (place_of (g.F.Folder.files l.folder) (g.O.Sink.contents l.output)) here c.in-Some.ensures.steps
+    c.in_ok-table.ensures.none l.invariant.leads (c.in_ok-table.ensures.filled rest) in
+    let t = c.in_ok-table.table in
+    let b = c.in_ok-table.ensures.built in
+    let split = ap (λ rest. l.yielded ++ rest) (sym c.in-Some.ensures.steps) ∙ l.invariant.split in
+    let there : HasExactAt board filling.layout c.put.new.self pair =
+    (t, subst (λ (p : Counts). table_on c.put.new.self p ≡ Some t) b.pair c.put.ensures.this, b.pair, b.layout, b.exact) in
     record {
-      split =
-          append_assoc l.yielded (pair ∷ []) c.next.new.self
-          ∙ (ap (λ rest. l.yielded ++ rest) (sym c.in-Some.ensures.steps) ∙ l.invariant.split);
-      near =
-          near-more board c.args.filling.now.layout c.args.filling.now.pair l.yielded c.next.new.self pair c.below-below-items.ensures.needs_first
-          (ap (λ rest. l.yielded ++ rest) (sym c.in-Some.ensures.steps) ∙ l.invariant.split)
-          l.stock c.spare.new.stock c.build_onto.new.stock l.invariant.near c.spare.ensures.near exact c.in_ok-build_onto.ensures.others;
-      leads = λ stays.
-          done_leads board c.args.filling.now.layout name blocks stays l.written.items c.push_reserved.new.self.items w start all c.next.new.self pair l.sent
-          c.in_ok-sent.sent here next t
-          (next_leads board c.args.filling.now.layout name blocks stays start all _ c.next.new.self pair l.sent digests here c.in-Some.ensures.steps (l.invariant.leads stays))
-          built within kept.0 kept.1 c.in_ok-sent.ensures.printed c.push_reserved.ensures.items;
-      room = c.push_reserved.ensures.capacity ∙ l.invariant.room;
-      count = omega (arith, c.push_reserved.ensures.len, l.invariant.count, length-append l.yielded (pair ∷ []));
-      few = omega (arith, c.in_ok-sent.ensures.printed.count, c.in_ok-file.ensures.short, l.invariant.few, length-append l.yielded (pair ∷ []));
-      locked = c.keep_table.ensures.locked;
-      unfailed = c.in_ok-file.ensures.caused ∙ l.invariant.unfailed;
-      uncounted = c.in_ok-sent.ensures.counted ∙ l.invariant.uncounted;
-      told =
-          g.met.T.Watch.joins c.args.teller.now c.build_onto.new.teller c.keep_table.new.watch
-          (g.met.T.Watch.joins c.args.teller.now l.teller c.build_onto.new.teller l.invariant.told c.build_onto.ensures.told) c.keep_table.ensures.told;
+      split = append_assoc l.yielded (pair ∷ []) rest ∙ split;
+      near = near-more board filling.layout filling.pair l.yielded rest pair c.below-below-items.ensures.needs_first split l.stock c.spare.new.stock
+          c.put.new.self l.invariant.near c.spare.ensures.near there (λ d apart. c.put.ensures.others d (λ e. apart (e ∙ b.pair)));
+      there = (there, b.within);
+      last = (
+        λ d m. most_last filling.pair l.yielded rest pair d split m,
+        omega (arith, b.exact.lawful.least, b.exact.lawful.ordered, ap stones b.pair),
+      );
+      leads = leads;
+      count = omega (arith, c.in_ok-table.ensures.count, l.invariant.count, length-append l.yielded (pair ∷ []));
+      locked = c.build_beside.ensures.locked;
+      unfailed = c.in_ok-table.ensures.caused ∙ l.invariant.unfailed;
+      uncounted = c.in_ok-table.ensures.counted ∙ l.invariant.uncounted;
+      told = g.met.T.Watch.joins _ _ _ l.invariant.told c.build_beside.ensures.told;
     }
 
--- no pair is left
-pub returns-clause-filled : goal.returns-clause-filled
-returns-clause-filled g c = λ stays after result ends.
+-- where there is one worker, once the file is written
+pub loop-below-preserved-in-Continue-branch-2 : goal.loop-below-preserved-in-Continue-branch-2
+loop-below-preserved-in-Continue-branch-2 g c =
     let board = g.B.Geometry.shape in
-    let name = c.args.filling.now.board.now in
-    let blocks = c.args.filling.now.crew.team.blocks in
-    let start = place_of (g.F.Folder.files c.args.folder.now) (g.O.Sink.contents c.args.output.now) in
-    let all = below_of c.args.filling.now.pair in
+    let filling = c.args.filling.now in
     let l = c.loop-below in
-    let here = place_of (g.F.Folder.files l.folder) (g.O.Sink.contents l.output) in
-    let digests = lines_of name l.written.items in
-    inr (all_done board c.args.filling.now.layout name blocks stays start all l.sent digests here after result
-    (no_leads board c.args.filling.now.layout name blocks stays start all _ l.sent digests here c.in-None.ensures.steps.0 (l.invariant.leads stays)) ends)
+    let pair = c.in-Some.below in
+    let rest = c.next.new.self in
+    let new = c.build_beside.new.filled in
+    let here = place_of (g.F.Folder.files c.build_beside.new.folder) (g.O.Sink.contents c.build_beside.new.output) in
+    let start : Rest = record {
+      pairs = below_of filling.pair;
+      sent = 0;
+      digests = [];
+      here = place_of (g.F.Folder.files c.args.folder.now) (g.O.Sink.contents c.args.output.now);
+    } in
+    let leads = waits board filling.layout filling.board.now filling.crew.team.blocks start l.filled.written.items new.written.items l.filled.sent new.sent
+    l.filled.waiting new.waiting l.below-iterator pair rest (place_of (g.F.Folder.files l.folder) (g.O.Sink.contents l.output)) here c.in-Some.ensures.steps
+    c.in_ok-table.ensures.none l.invariant.leads (c.in_ok-table.ensures.filled rest) in
+    let t = c.in_ok-table.table in
+    let b = c.in_ok-table.ensures.built in
+    let split = ap (λ rest. l.yielded ++ rest) (sym c.in-Some.ensures.steps) ∙ l.invariant.split in
+    let there : HasExactAt board filling.layout c.put.new.self pair =
+    (t, subst (λ (p : Counts). table_on c.put.new.self p ≡ Some t) b.pair c.put.ensures.this, b.pair, b.layout, b.exact) in
+    let more = c.file_waiting.new.filled in
+    let next = place_of (g.F.Folder.files c.file_waiting.new.folder) (g.O.Sink.contents c.file_waiting.new.output) in
+    let none = c.in_ok-file_waiting.ensures.none in
+    record {
+      split = append_assoc l.yielded (pair ∷ []) rest ∙ split;
+      near = near-more board filling.layout filling.pair l.yielded rest pair c.below-below-items.ensures.needs_first split l.stock c.spare.new.stock
+          c.put.new.self l.invariant.near c.spare.ensures.near there (λ d apart. c.put.ensures.others d (λ e. apart (e ∙ b.pair)));
+      there = subst (λ (o : Option Counts). IfSome o (IsThere board filling.layout c.put.new.self)) (sym none) tt;
+      last = subst (λ (o : Option Counts). IfSome o (IsLast (l.yielded ++ pair ∷ []))) (sym none) tt;
+      leads = goes_further board filling.layout filling.board.now filling.crew.team.blocks {T = Unit {0}} start
+          (rest_of filling.board.now new.written.items new.sent (Some pair) rest here)
+          (rest_of filling.board.now more.written.items more.sent more.waiting rest next) (Ok (tt {0})) leads (c.in_ok-file_waiting.ensures.filled rest);
+      count = omega (
+        arith,
+        c.in_ok-file_waiting.ensures.count,
+        ap (λ (o : Option Counts). length (option_to_list o)) none,
+        c.in_ok-table.ensures.count,
+        l.invariant.count,
+        length-append l.yielded (pair ∷ []),
+      );
+      locked = c.file_waiting.ensures.locked;
+      unfailed = c.in_ok-file_waiting.ensures.caused ∙ (c.in_ok-table.ensures.caused ∙ l.invariant.unfailed);
+      uncounted = c.in_ok-file_waiting.ensures.counted ∙ (c.in_ok-table.ensures.counted ∙ l.invariant.uncounted);
+      told = g.met.T.Watch.joins _ _ _ (g.met.T.Watch.joins _ _ _ l.invariant.told c.build_beside.ensures.told) c.file_waiting.ensures.told;
+    }
 
-pub returns-in_err-file-clause-told : goal.returns-in_err-file-clause-told
-returns-in_err-file-clause-told g c =
-    g.met.T.Watch.joins _ _ _ (g.met.T.Watch.joins _ _ _ c.loop-below.invariant.told c.build_onto.ensures.told)
-    c.keep_table.ensures.told
+-- ---- no pair is left
 
-pub returns-in_err-sent-clause-told : goal.returns-in_err-sent-clause-told
-returns-in_err-sent-clause-told g c =
-    g.met.T.Watch.joins _ _ _ (g.met.T.Watch.joins _ _ _ c.loop-below.invariant.told c.build_onto.ensures.told)
-    c.keep_table.ensures.told
+pub returns-clause-filled : goal.returns-clause-filled
+returns-clause-filled g c =
+    let filling = c.args.filling.now in
+    let l = c.loop-below in
+    let new = c.file_waiting-2.new.filled in
+    let start : Rest = record {
+      pairs = below_of filling.pair;
+      sent = 0;
+      digests = [];
+      here = place_of (g.F.Folder.files c.args.folder.now) (g.O.Sink.contents c.args.output.now);
+    } in
+    let next = place_of (g.F.Folder.files c.file_waiting-2.new.folder) (g.O.Sink.contents c.file_waiting-2.new.output) in
+    comes_to g.B.Geometry.shape filling.layout filling.board.now filling.crew.team.blocks filling.pair start.here next new.written.items new.sent new.waiting
+    c.file_waiting-2.result c.file_waiting-2.ensures.none
+    (goes_from g.B.Geometry.shape filling.layout filling.board.now filling.crew.team.blocks start l.filled.written.items l.filled.sent l.filled.waiting
+    l.below-iterator [] (place_of (g.F.Folder.files l.folder) (g.O.Sink.contents l.output))
+    (rest_of filling.board.now new.written.items new.sent new.waiting [] next) c.file_waiting-2.result c.in-None.ensures.steps.0 l.invariant.leads
+    (c.file_waiting-2.ensures.filled []))
 
--- ---- what a refusal has for a cause
+pub returns-clause-caused : goal.returns-clause-caused
+returns-clause-caused g c =
+    cause_on g.F.Reader.Source.failures g.F.Writer.Sink.failures (Some false) (Some false) ⊥ ⊥ (g.F.Folder.failures c.args.folder.now)
+    (g.F.Folder.failures c.loop-below.folder) (g.F.Folder.failures c.file_waiting-2.new.folder) c.loop-below.invariant.unfailed (λ h. h) (λ h. h)
+    c.file_waiting-2.result c.file_waiting-2.ensures.caused
 
-pub returns-in_err-build_onto-clause-caused : goal.returns-in_err-build_onto-clause-caused
-returns-in_err-build_onto-clause-caused g c =
-    let failed = err_from_is_err_and c.from_residual.result c.from_residual.ensures.1 in
-    rw (failed.1, failed.2)
-    (unbuilt_caused g.F.Reader.Source.failures g.F.Writer.Sink.failures (Some false) ⊥ (g.F.Folder.failures c.args.folder.now)
-    (g.F.Folder.failures c.loop-below.folder) g.B.Geometry.shape c.in-Some.below c.args.filling.now.crew.team.blocks c.in_err-build_onto.field-0.0
-    c.in_err-build_onto.ensures.refused)
+pub returns-clause-counted : goal.returns-clause-counted
+returns-clause-counted g c =
+    subst (λ (n : ℕ). CountsWrites {T = Unit {0}} n (g.O.Sink.failures c.file_waiting-2.new.output) c.file_waiting-2.result) c.loop-below.invariant.uncounted
+    c.file_waiting-2.ensures.counted
 
-pub returns-in_err-file-clause-caused : goal.returns-in_err-file-clause-caused
-returns-in_err-file-clause-caused g c =
-    let failed = err_from_is_err_and c.from_residual-in_err-file.result c.from_residual-in_err-file.ensures.1 in
-    rw (failed.1, failed.2)
-    (caused_on g.F.Reader.Source.failures g.F.Writer.Sink.failures (Some false) (Some false) ⊥ ⊥ (g.F.Folder.failures c.args.folder.now)
-    (g.F.Folder.failures c.loop-below.folder) (g.F.Folder.failures c.keep_table.new.folder) c.loop-below.invariant.unfailed (λ h. h) (λ h. h)
-    c.in_err-file.field-0.0 c.in_err-file.ensures.caused)
-
-pub returns-in_err-sent-clause-caused : goal.returns-in_err-sent-clause-caused
-returns-in_err-sent-clause-caused g c =
-    let failed = err_from_is_err_and c.from_residual-in_err-sent.result c.from_residual-in_err-sent.ensures.1 in
-    let w = c.in_ok-file.file in
-    rw (failed.1, failed.2)
-    (line_caused g.F.Reader.Source.failures g.F.Writer.Sink.failures (Some false) ⊥ (g.F.Folder.failures c.args.folder.now)
-    (g.F.Folder.failures c.keep_table.new.folder) (filed_text w.pair w.entries w.bytes w.digest) c.loop-below.sent (g.O.Sink.contents c.loop-below.output)
-    (g.O.Sink.contents c.print_after.new.output) c.in_err-sent.field-0.0 c.in_err-sent.ensures.printed)
+pub returns-clause-told : goal.returns-clause-told
+returns-clause-told g c = g.met.T.Watch.joins _ _ _ c.loop-below.invariant.told c.file_waiting-2.ensures.told
