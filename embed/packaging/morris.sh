@@ -26,7 +26,9 @@ if [ "$has" != unlimited ] && [ "$has" -lt "$stack" ]; then
 fi
 # A file that grows too large is a write that fails, and no signal that ends the program.
 trap '' XFSZ
-# The C library gives back at once what is let go in pieces of 64 KiB or more.
-: "${MALLOC_MMAP_THRESHOLD_:=65536}"
-export MALLOC_MMAP_THRESHOLD_
+# The C library gives back at once what is let go in pieces of 48 KiB or more, and sets no smaller
+# ones aside for its threads.
+: "${MALLOC_MMAP_THRESHOLD_:=49152}"
+: "${GLIBC_TUNABLES:=glibc.malloc.tcache_count=0}"
+export MALLOC_MMAP_THRESHOLD_ GLIBC_TUNABLES
 exec "${here%/*}/../libexec/morris/morris" "$@"

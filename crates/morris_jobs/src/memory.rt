@@ -15,11 +15,11 @@ use morris_pairs::layout::Layout;
 use morris_table::building::is_by_rows;
 
 /// Bytes of the program itself.
-pub(crate) const BASE: u64 = 4_000_000;
+pub(crate) const BASE: u64 = 5_000_000;
 
 /// Bytes of a worker: its thread, the batches of the piece at which it is, and the lists that it
 /// keeps from one piece to the next.
-const WORKER: u64 = 2_800_000;
+const WORKER: u64 = 700_000;
 
 /// Bytes of an entry of a table: its code.
 pub(crate) const CODE: u64 = 2;
@@ -44,12 +44,20 @@ const LISTED: u64 = 4;
 /// it out of a block to go back from its entry.
 const WIDE: u64 = 8;
 
-/// Bytes of a set of as many points as the side with fewer stones has, while a pair is built by
-/// rows: what the moves of these stones are.
-const MOVES: u64 = 28;
+/// Bytes that a block keeps of each block, itself included: whether all is applied that comes from
+/// there, and from which node on.
+const SOURCE: u64 = 9;
+
+/// A list of so many bytes is given back to the system as soon as it is let go, as `./morris` sets
+/// it for the C library, which keeps shorter ones.
+const GIVEN_BACK: u64 = 49_152;
 
 /// A whole, in the parts in which shares are counted.
 const WHOLE: u64 = 1000;
+
+/// Bytes of a set of as many points as the side with fewer stones has, while a pair is built by
+/// rows: what the moves of these stones are.
+const MOVES: u64 = 28;
 
 /// In how many of 1,000 positions of the usual board the player to move can close a mill: by the
 /// stones of that player, 3 to 9, and in each row by those of the other one.
@@ -93,15 +101,16 @@ pub(crate) fn bytes_of_making<B: Geometry>(
             .saturating_mul(OPEN)
             .saturating_add(decided.saturating_mul(WIDE));
     };
-    // Blocks are let go as their codes are put into the table, so both are never there as a whole.
-    let open = entries.saturating_mul(OPEN.max(CODE) - CODE);
     // For four entries that come due by captures, one more is decided by quiet moves while most of
     // them are in a list.
     let listed = due
         .saturating_mul(GAP)
         .saturating_add((due / 4).saturating_mul(listed_bytes(entries)));
-    let solving = open
-        .saturating_add(listed)
+    // Blocks are let go as their codes are put into the table, so both are never there as a whole,
+    // unless the lists of blocks are short. Nothing is listed any more then.
+    let solving = listed
+        .max(bytes_kept(entries, team.blocks as u64))
+        .saturating_add(SOURCE * (team.blocks * team.blocks) as u64)
         .saturating_add(bytes_of_workers(pair, entries, team));
     if layout == Layout::Full || !is_by_rows(pair) {
         return solving;
@@ -110,6 +119,18 @@ pub(crate) fn bytes_of_making<B: Geometry>(
     // the codes of the second half are made anew, beside those of all nodes.
     let anew = (entries / 2).saturating_mul(CODE);
     solving.max(anew).saturating_add(bytes_of_rows(pair))
+}
+
+/// About how many bytes of the blocks' lists the C library keeps while their codes are put into the
+/// table. A block has for each entry a code of one byte, a counter of one byte, and one byte more
+/// of room; as measured, most of that room is in use by what was kept before.
+fn bytes_kept(entries: u64, blocks: u64) -> u64
+    requires { 0 < blocks }
+{
+    if entries / blocks >= GIVEN_BACK {
+        return 0;
+    }
+    entries.saturating_mul(11) / 4
 }
 
 /// About how many bytes it takes to find the rows of a pair and the moves in them: a second table
