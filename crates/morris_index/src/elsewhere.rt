@@ -48,8 +48,9 @@ impl<'a, B: Geometry> Model for Elsewhere<'a, B> {
 }
 
 impl<B: Geometry> ClassPair<B> {
-    /// What is kept of a position less the opponent's stone on `point`, where the entries stand of
-    /// the positions with these stones of the player to move, who stands on a representative.
+    /// A position without the opponent's stone on `point`: the stones that stay are numbered once
+    /// for all points on which that one may stand instead. The player to move stands on a
+    /// representative, and `standing` is where the entries of such positions begin.
     pub fn elsewhere(
         &self,
         standing: &Standing,
