@@ -2,13 +2,12 @@
 # shellcheck shell=sh
 
 program=$out/morris
-built=$out/launcher.sources
 lock=$out/launcher.lock
 log=$out/launcher.log
 
-# Whether the program is there that a run of this script built from these sources.
+# Whether the program is there that was built here from the sources of this stamp.
 is_built() {
-    [ -x "$program" ] && [ -f "$built" ] && [ "$1 $(cksum < "$program")" = "$(cat "$built")" ]
+    [ -x "$program" ] && sh "$root/ci/sources" holds "$program" "$1"
 }
 
 # A build writes into the folder out/ of each crate.
@@ -43,7 +42,7 @@ build() {
         tail -n 20 "$log" >&2
         return 1
     fi
-    printf '%s\n' "$1 $(cksum < "$program")" > "$built" || return 1
+    sh "$root/ci/sources" mark "$program" "$1" || return 1
     say "built"
 }
 

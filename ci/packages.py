@@ -277,6 +277,7 @@ def try_without_kit(room, core, archive):
     if (read(made), read(f"{prefix}/libexec/morris/morris")) != (read(core), read(MORRIS)):
         sys.exit("the library or the program that was unpacked isn't the released one")
     os.remove(made)
+    os.remove(f"{made}.sources")
     packing.release(place, archive, {**lines, "library": 64 * "0"})
     refused_without_kit(place, "has the digest")
     packing.release(place, archive, lines)

@@ -1,7 +1,7 @@
 """What is released: the folder release/ of a copy of the repository. It has the archive that
 `make -C embed dist` made, its digest in SHA256SUMS, and BUILT, which says what it was made from.
-ci/release writes them; ci/archive.sh, for ./morris and for embed/packaging/, and ci/released read
-them."""
+ci/release writes them; ci/archive.sh, for ./morris and for embed/packaging/, and ci/released
+read them."""
 
 import hashlib
 import os
@@ -28,9 +28,20 @@ COMPILED = ("morris_folder.o", "morris_tables.o")
 
 
 def sources(root, *words):
-    """The checksum of the sources, or, by the word `names`, their names."""
+    """The checksum of the sources, or of what the word `interface` stands for, or, by the word
+    `names`, the sources' names."""
     done = subprocess.run([f"{root}/ci/sources", *words], stdout=subprocess.PIPE, check=True)
     return done.stdout.decode().strip()
+
+
+def mark(path, stamp):
+    """Notes beside a file that it was made of the sources of this checksum."""
+    subprocess.run([f"{ROOT}/ci/sources", "mark", path, stamp], check=True)
+
+
+def is_of(path, stamp):
+    """Whether a file was marked so, and is as it was then."""
+    return not subprocess.run([f"{ROOT}/ci/sources", "holds", path, stamp]).returncode
 
 
 def said(*words):

@@ -1,7 +1,8 @@
 #!/bin/sh
-# Makes the proved static library, crates/morris_c/out/libmorris_c.a, where it isn't there or a file
-# of a crate that it is made from is newer. Where release/BUILT is of these very sources, it is the
-# one that was built from them, and else, or with MORRIS_FROM_PROOFS=1, `rt lib` makes it.
+# Makes the proved static library, crates/morris_c/out/libmorris_c.a, where the one that is there
+# isn't of these sources, by what ci/sources noted beside it. Where release/BUILT is of these very
+# sources, it is the one that was built from them, and else, or with MORRIS_FROM_PROOFS=1, `rt lib`
+# makes it.
 set -u
 CDPATH='' cd -P -- "$(dirname -- "$0")/../.." || exit 1
 root=$PWD
@@ -19,35 +20,8 @@ refuse() {
 
 . ci/archive.sh || exit 1
 
-# A crate and those that it stands on, by crates.txt: the crates of the repository among them.
-crates_below() {
-    found=$1
-    while :; do
-        more=$found
-        for it in $found; do
-            more="$more $(sed -n -E "s/^$it( [^:]*)?: *//p" crates.txt)"
-        done
-        # shellcheck disable=SC2086
-        more=$(printf '%s\n' $more | LC_ALL=C sort -u | while read -r it; do
-            [ ! -d "crates/$it" ] || echo "$it"
-        done)
-        [ "$more" != "$found" ] || break
-        found=$more
-    done
-    echo "$found"
-}
-
-is_new() {
-    [ -f "$made" ] || return 1
-    for it in $(crates_below morris_c); do
-        newer=$(find "crates/$it/src" "crates/$it/specs" "crates/$it/proofs" -type f \
-            -newer "$made" 2> /dev/null | head -n 1)
-        [ -z "$newer" ] || return 1
-    done
-}
-
 is_released() {
-    [ "${MORRIS_FROM_PROOFS-}" != 1 ] && [ "$(told sources)" = "$(sh ci/sources)" ]
+    [ "${MORRIS_FROM_PROOFS-}" != 1 ] && [ "$(told sources)" = "$now" ]
 }
 
 # The released library without what the C files of embed/ give it.
@@ -84,10 +58,13 @@ the PATH. A release of Morris has it built; CORE=PATH names a libmorris_c.a"
     return "$(cat "$ended")"
 }
 
-if ! is_new; then
+now=$(sh ci/sources) || refuse "the sources can't be read"
+if ! sh ci/sources holds "$made" "$now"; then
     if is_released; then
         unpack_released
     else
-        prove
+        prove || exit
     fi
+    # (`rt lib` leaves a library alone that it finds up to date, and then `make` would too)
+    touch "$made" && sh ci/sources mark "$made" "$now"
 fi

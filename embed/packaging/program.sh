@@ -15,16 +15,12 @@ refuse() {
 
 . ci/archive.sh
 
-is_built() {
-    [ -x "$built" ] &&
-        [ -z "$(find crates crates.txt -name out -prune -o -type f -newer "$built" -print | head -n 1)" ]
-}
-
+now=$(sh ci/sources)
 if [ -n "$named" ]; then
     cp -- "$named" "$place.part"
-elif is_built; then
+elif sh ci/sources holds "$built" "$now"; then
     cp -- "$built" "$place.part"
-elif [ "$(told sources)" = "$(sh ci/sources)" ]; then
+elif [ "$(told sources)" = "$now" ]; then
     hold_archive
     from_archive libexec/morris/morris > "$place.part" ||
         refuse "$packed can't be unpacked into $place.part"
