@@ -1,6 +1,6 @@
-# What ./morris and embed/packaging/ share: the archive in release/, by what release/BUILT tells of
-# it. Who reads this has set `root`, the repository's folder, and has `refuse`, which says why and
-# ends.
+# What ./morris, ci/library and embed/packaging/ share: the archive in release/, by what
+# release/BUILT tells of it. Who reads this has set `root`, the repository's folder, and has
+# `refuse`, which says why and ends.
 # shellcheck shell=sh
 
 release=$root/release

@@ -85,6 +85,9 @@ class Server:
         found = LISTENS.search(line)
         if not found:
             raise Wrong(f"the explorer says {line!r}: {self.process.stderr.read()}")
+        taken = self.process.stderr.readline()
+        if not taken.startswith("the library of Morris: /"):
+            raise Wrong(f"the explorer says of its library: {taken!r}")
         self.port = int(found[1])
         self.url = found[0]
 

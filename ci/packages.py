@@ -290,10 +290,13 @@ def try_without_kit(room, core, archive):
 
 
 def try_all(room, out, archive, full, classes):
+    """Tries all of this, and gives the path of the archive that was made."""
     try_page(room, out, classes)
     try_install(room, out, archive, classes)
     try_wheel(room, out, archive, classes)
     try_types()
     try_crate(room, out, full, classes)
     compare_released(archive)
-    try_without_kit(room, archive, try_archive(room, out, archive))
+    made = try_archive(room, out, archive)
+    try_without_kit(room, archive, made)
+    return made

@@ -1,7 +1,7 @@
 """What is released: the folder release/ of a copy of the repository. It has the archive that
 `make -C embed dist` made, its digest in SHA256SUMS, and BUILT, which says what it was made from.
-ci/release writes them; ci/archive.sh, for ./morris and for embed/packaging/, and ci/released
-read them."""
+ci/release writes them; ci/archive.sh, for ./morris, ci/library and embed/packaging/, and
+ci/released read them."""
 
 import hashlib
 import os
@@ -21,9 +21,9 @@ from dist import digests, write_archive
 FOLDER, BUILT, SUMS = "release", "release/BUILT", "release/SHA256SUMS"
 # An archive has no more bytes.
 MOST_BYTES = 3_000_000
-# What the launcher and `make -C embed` take from it, and the parts of the library that C files of
-# embed/ were compiled to.
-PROGRAM, LIBRARY = "libexec/morris/morris", "lib/libmorris.a"
+# What the launcher, `make -C embed` and the module for Python take from it, and the parts of the
+# library that C files of embed/ were compiled to.
+PROGRAM, LIBRARY, SHARED = "libexec/morris/morris", "lib/libmorris.a", "lib/libmorris.so.1"
 COMPILED = ("morris_folder.o", "morris_tables.o")
 
 
@@ -112,11 +112,10 @@ def make_archive(out, *words, **how):
     return done.stdout.split()[-1]
 
 
-def facts(root, archive, built, gate):
-    """What BUILT says of an archive with what was built, at a time, from the sources of a copy of
-    the repository, and of the gate that built it."""
-    files, machine = files_of(archive), platform.uname()
-    date = datetime.fromtimestamp(int(built), timezone.utc)
+def stamps(root, archive):
+    """What BUILT says of an archive by which something is taken from it: of which sources of a copy
+    of the repository it is, and the digests."""
+    files = files_of(archive)
     found = {
         "sources": sources(root),
         "archive": os.path.basename(archive),
@@ -124,9 +123,18 @@ def facts(root, archive, built, gate):
         "program": digest(files[PROGRAM]),
     }
     if LIBRARY in files:
+        found["interface"] = sources(root, "interface")
         found["library"] = digest(proved_part(files[LIBRARY]))
+        found["shared"] = digest(files[SHARED])
+    return found
+
+
+def facts(root, archive, built, gate):
+    """What BUILT says of an archive with what was built, at a time, from the sources of a copy of
+    the repository, and of the gate that built it."""
+    machine, date = platform.uname(), datetime.fromtimestamp(int(built), timezone.utc)
     return {
-        **found,
+        **stamps(root, archive),
         "kit": kit(),
         "compiler": compiler(),
         "machine": f"{machine.system} {machine.release} {machine.machine}, "

@@ -590,6 +590,7 @@ def main(words: Optional[Sequence[str]] = None) -> int:
         if getattr(error, "errno", None) == errno.EADDRINUSE:
             print("--port 0 takes any free port", file=sys.stderr)
         return 1
+    print(f"the library of Morris: {morris.library()}", file=sys.stderr, flush=True)
     print(f"Morris is at {server.url} (Ctrl-C ends it)", flush=True)
     if not options.no_browser:
         threading.Thread(target=webbrowser.open, args=[server.url], daemon=True).start()

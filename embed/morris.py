@@ -21,9 +21,11 @@ are replaced by renaming, as `morris build` does.
 
 `play` and `legal_moves` need no tables.
 
-The shared library `libmorris.so` is looked for beside this file, in the folder `out` there, in the
-folder `lib` of a release or of the place to which this file was installed, and then where the
-system looks. The environment variable `MORRIS_LIBRARY` names another.
+In a clone of Morris the shared library is the one that `make -C embed` made, if it is of the same
+sources as the clone, or else the one in the archive in `release/`, if that is. Elsewhere
+`libmorris.so` is looked for beside this file, in the folder `out` there, in the folder `lib` of a
+release or of the place to which this file was installed, and then where the system looks. The
+environment variable `MORRIS_LIBRARY` names another. `library` tells which one was taken.
 """
 
 from __future__ import annotations
@@ -34,6 +36,7 @@ import errno
 import os
 import re
 import reprlib
+import subprocess
 import weakref
 from typing import (
     Any,
@@ -53,6 +56,7 @@ __all__ = [
     "Fault",
     "Folder",
     "Kind",
+    "Library",
     "Move",
     "Outcome",
     "Ply",
@@ -61,6 +65,7 @@ __all__ = [
     "Tables",
     "Value",
     "legal_moves",
+    "library",
     "open_tables",
     "play",
     "version",
@@ -225,25 +230,73 @@ class Ply(NamedTuple):
     position: Position
 
 
+class Library(NamedTuple):
+    """The shared library whose calls the module makes."""
+
+    path: str
+    """Its path, or a bare name where the system found it."""
+    origin: str
+    """Why it is this one, in words."""
+
+    def __str__(self) -> str:
+        return f"{self.path}, {self.origin}"
+
+
 _loaded: Optional[ctypes.CDLL] = None
+_taken: Optional[Library] = None
+# What the first line means that `ci/library` of a clone prints.
+_ORIGINS = {
+    "built": "which was built here",
+    "stale": "the released one, since embed/out/libmorris.so isn't of these sources: "
+    "`make -C embed` builds it anew",
+    "released": "the released one",
+    "unkept": "the released one, which was unpacked for this run alone",
+}
 
 
-def _load() -> Tuple[str, ctypes.CDLL]:
-    """The name of the shared library, and the library."""
+def _of_clone() -> Optional[Tuple[str, str]]:
+    """What `ci/library` prints, if this file stands in a clone of Morris: a key of `_ORIGINS`, and
+    the path. Raises `OSError` where it says that there is no library of the clone's sources."""
+    folder = os.path.dirname(os.path.realpath(__file__))
+    finder = os.path.join(os.path.dirname(folder), "ci", "library")
+    if os.path.basename(folder) != "embed" or not os.path.isfile(finder):
+        return None
+    try:
+        done = subprocess.run(["/bin/sh", finder], stdin=subprocess.DEVNULL, capture_output=True)
+    except OSError as error:
+        raise OSError(f"{finder} can't be run: {error}") from None
+    if done.returncode:
+        raise OSError(os.fsdecode(done.stderr).strip())
+    origin, _, path = os.fsdecode(done.stdout).partition("\n")
+    return origin, path[:-1]
+
+
+def _load() -> Tuple[Library, ctypes.CDLL]:
+    """The shared library, and which one it is."""
     name, folder = "libmorris.so", os.path.dirname(os.path.abspath(__file__))
     near = ((), ("out",), ("..", "lib"), ("..", ".."))
     places = [os.path.normpath(os.path.join(folder, *it, name)) for it in near]
     where = f"looked for {', '.join(places)}, and where the system looks"
-    name = next(filter(os.path.exists, places), name)
-    if os.environ.get("MORRIS_LIBRARY"):
-        name, where = os.environ["MORRIS_LIBRARY"], "the variable MORRIS_LIBRARY names it"
+    found = None if os.environ.get("MORRIS_LIBRARY") else _of_clone()
+    if found is not None:
+        taken = Library(found[1], _ORIGINS[found[0]])
+        where = taken.origin
+    elif os.environ.get("MORRIS_LIBRARY"):
+        taken = Library(os.environ["MORRIS_LIBRARY"], "which MORRIS_LIBRARY names")
+        where = "the variable MORRIS_LIBRARY names it"
+    else:
+        path = next(filter(os.path.exists, places), None)
+        taken = Library(path or name, "beside the module" if path else "where the system found it")
     try:
-        return name, ctypes.CDLL(name, use_errno=True)
+        return taken, ctypes.CDLL(taken.path, use_errno=True)
     except OSError as error:
         raise OSError(
             f"the library of Morris can't be loaded ({error}): {where}. `make -C embed` in a clone "
             "of Morris makes it, and a wheel of Morris has it"
         ) from None
+    finally:
+        if found is not None and found[0] == "unkept":
+            os.remove(taken.path)
 
 
 def _calls() -> Dict[str, Tuple[Any, List[Any]]]:
@@ -268,17 +321,27 @@ def _calls() -> Dict[str, Tuple[Any, List[Any]]]:
 
 def _library() -> ctypes.CDLL:
     """The shared library, with the types of its calls. Raises `OSError` where there is none."""
-    global _loaded
+    global _loaded, _taken
     if _loaded is not None:
         return _loaded
-    name, library = _load()
+    taken, library = _load()
     for call, (result, arguments) in _calls().items():
         function = getattr(library, call, None)
         if function is None:
-            raise OSError(f"{name} isn't this version of the library of Morris: it has no {call}")
+            raise OSError(
+                f"{taken.path} isn't this version of the library of Morris: it has no {call}"
+            )
         function.restype, function.argtypes = result, arguments
-    _loaded = library
+    _loaded, _taken = library, taken
     return library
+
+
+def library() -> Library:
+    """Which shared library the module calls: its path, and why it is this one. Raises `OSError`
+    where there is none."""
+    _library()
+    assert _taken is not None
+    return _taken
 
 
 def version() -> str:

@@ -99,7 +99,9 @@ def pairs(full):
 
 
 def libraries(full):
-    """A library that isn't there, and one that is another."""
+    """The library that is named, one that isn't there, and one that is another."""
+    named = os.environ["MORRIS_LIBRARY"]
+    assert morris.library() == (named, "which MORRIS_LIBRARY names")
     code = OPENS.replace(", error.filename == sys.argv[1]", "")
     for name in (f"{full}/none.so", f"{full}/{NAME}", "libc.so.6"):
         assert run_python(code, full, MORRIS_LIBRARY=name) == "OSError None\n", name
