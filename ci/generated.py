@@ -84,12 +84,6 @@ def parts_of(path, text):
     yield None, lines
 
 
-def written_by_hand(path):
-    """How many bytes of a document are neither generated nor say what is."""
-    by_hand = [lines for words, lines in parts_of(path, read(path)) if words is None]
-    return sum(len(f"{line}\n".encode()) for lines in by_hand for line in lines)
-
-
 def items_of(text):
     """The definitions of a file of specs/, each with the comment right above it."""
     items, here = [], []
