@@ -8,7 +8,7 @@ import sys
 import tempfile
 from glob import glob
 
-from runs import ROOT
+from steps import ROOT
 
 # What takes the program or the library out of the archive.
 COMMANDS = (

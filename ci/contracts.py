@@ -4,7 +4,7 @@ By these ci/documents finds the contracts that a document names and that aren't 
 import re
 from pathlib import Path
 
-from runs import ROOT
+from steps import ROOT
 
 FUNCTION = re.compile(r'\s*(?:pub(?:\(crate\))? )?(?:final )?(?:extern "C" )?fn (\w+)')
 CLAUSE = re.compile(r"\s*(?:ensures|requires)(?: (\w+))? \{")

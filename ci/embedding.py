@@ -15,9 +15,13 @@ MOST_OF_A_BUILD = 3600
 # How many positions of the usual board are asked for, and the seed by which they are made up.
 ASKED, SEED = 500, 20261125
 
+runs = 0
+
 
 def run(words, seconds=MOST_SECONDS, **how):
     """What a command writes. It has to end with status 0."""
+    global runs
+    runs += 1
     how = {"stdout": subprocess.PIPE, "text": True, "timeout": seconds, **how}
     done = subprocess.run(words, **how)
     if done.returncode:

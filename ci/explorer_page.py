@@ -3,7 +3,8 @@
 
 from browser import DELETE, DOWN, ENTER, ESCAPE, LEFT, RIGHT, TAB, UP, Browser
 from explorer_requests import found
-from explorer_server import Wrong, all_of_grid, check, line_of, looked_up, made_up, stats_of
+from explorer_server import Wrong, all_of_grid, check, line_of, looked_up, made_up
+from explorer_server import note_runs, stats_of
 
 ASKED = 200
 COUNTS = [(3, 3), (4, 3), (3, 4), (4, 4)]
@@ -85,6 +86,7 @@ class Page:
 
     def shows(self, board, text, mover="white"):
         """Waits until the answer for a position is on the page."""
+        note_runs()
         name = f"{board}/{text}/{mover}"
         self.browser.wait(name, "return document.body.dataset.shown === arguments[0];", name)
 

@@ -15,7 +15,7 @@ import threading
 import time
 import urllib.parse
 
-from explorer_server import EMBED, SEED, Server, Wrong, all_of_grid, check
+from explorer_server import EMBED, SEED, Server, Wrong, all_of_grid, check, note_runs
 from explorer_server import looked_up, made_up, make_package, stats_of
 from rules import BOARDS, positions, read_text, text_of
 
@@ -38,6 +38,7 @@ NINE_PAIRS = [(3, 3), (4, 3), (4, 4)]
 
 def ask(server, path, status=200, **words):
     """The answer to a request, as JSON."""
+    note_runs()
     query = f"?{urllib.parse.urlencode(words)}" if words else ""
     link = http.client.HTTPConnection("127.0.0.1", server.port, timeout=30)
     try:
@@ -317,6 +318,7 @@ def hostile_requests(port):
 
 def answer_to(port, sent, is_cut):
     """All bytes that come back."""
+    note_runs()
     with socket.create_connection(("127.0.0.1", port), timeout=30) as link:
         link.sendall(sent)
         if is_cut:
@@ -442,6 +444,7 @@ def make_load(server, words, requests):
         hand.join()
     if wrong:
         raise wrong[0]
+    note_runs(requests)
 
 
 def check_load(server, folder):

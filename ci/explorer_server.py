@@ -14,11 +14,18 @@ from rules import GRID, NINE, positions, text_of
 from runs import MORRIS, ROOT
 
 EMBED = f"{ROOT}/embed"
-CORE = f"{ROOT}/crates/morris_c/out/libmorris_c.a"
 # By which made-up positions are made up.
 SEED = 20261128
 MOST_SECONDS = 300
 LISTENS = re.compile(r"http://127\.0\.0\.1:(\d+)/")
+
+# How many commands were run, and how many requests and pages were answered.
+runs = 0
+
+
+def note_runs(more=1):
+    global runs
+    runs += more
 
 
 class Wrong(Exception):
@@ -32,6 +39,7 @@ def check(what, found, wanted):
 
 def run(words, **how):
     """What a command writes. It has to end with status 0."""
+    note_runs()
     how = {"stdout": subprocess.PIPE, "text": True, "timeout": MOST_SECONDS, **how}
     done = subprocess.run(words, **how)
     if done.returncode:
@@ -40,14 +48,6 @@ def run(words, **how):
 
 
 # ---- what the server stands on
-
-
-def make_library(out):
-    """The shared library, over the static one that was proved before."""
-    if not os.path.exists(CORE):
-        raise Wrong(f"{CORE} isn't there: ci/embed makes it")
-    run(["make", "-s", "-C", EMBED, f"OUT={out}", f"CORE={CORE}", f"{out}/libmorris.so"])
-    os.environ["MORRIS_LIBRARY"] = f"{out}/libmorris.so"
 
 
 def build_tables(folder, *words):

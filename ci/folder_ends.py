@@ -16,6 +16,7 @@ from folder_runs import GRID_BUILD, LOCK, check, check_list, check_sums, counted
 from folder_runs import files_of, lines_of, named, read, run, sums_of, verified, write
 from rules import below
 from runs import MORRIS
+from steps import is_there, leave_out
 
 LIST = "grid.sha256"
 PAIRS = ("3-3", "4-3", "4-4", "5-3", "5-4", "6-3")
@@ -29,6 +30,8 @@ MOST_WAITED = 0.25
 # How many times two builds begin at once, and in how many folders side by side.
 RACES = 200
 LANES = 4
+# How many builds strace looks on.
+TRACED = 4
 
 
 class Tables:
@@ -470,11 +473,13 @@ def made_to_last(name):
 
 def check_lasting(room, tables):
     """What a build wrote is to last before it tells of it: the bytes of each file, its name, and
-    that of the folder. Answers what was left out."""
-    if shutil.which("strace") is None:
-        return ["what is made to last, since there is no strace"]
+    that of the folder."""
+    if not is_there("strace"):
+        leave_out(TRACED, "strace")
+        return
     if subprocess.run(["strace", "-o", os.devnull, "true"], capture_output=True).returncode:
-        return ["what is made to last, since strace may not look on"]
+        leave_out(TRACED, "the right to trace a process (strace)")
+        return
     os.mkdir(f"{room}/lasting")
     top = os.path.realpath(f"{room}/lasting")
     written = []
@@ -494,11 +499,9 @@ def check_lasting(room, tables):
             os.mkdir(place)
             write(f"{place}/{LIST}", sums_of("grid", {"6-3": b""}))
         check(f"{words}", calls_of(place, words, top), [*begun, *written, *ended])
-    return []
 
 
 def check_all(room):
-    """Answers what was left out."""
     tables = Tables()
     check_orders(f"{room}/orders", tables)
     check_lists(f"{room}/lists", tables)
@@ -507,4 +510,4 @@ def check_all(room):
     check_killed_of_any(f"{room}/any", tables)
     check_locked(f"{room}/locked", tables)
     check_races(room, tables)
-    return check_lasting(room, tables)
+    check_lasting(room, tables)

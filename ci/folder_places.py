@@ -10,6 +10,7 @@ from contextlib import contextmanager
 from folder_runs import GRID_BUILD, LOCK, check, counted, fault, files_in, folder_of, lines_of
 from folder_runs import named, read, run, sums_of, thing_at, verified, write
 from runs import MORRIS, limit
+from steps import is_there, leave_out
 
 LOW, HIGH, LIST = "grid-3-3.nmmt", "grid-4-3.nmmt", "grid.sha256"
 # What has to stay as it is where a link leads to it.
@@ -20,6 +21,9 @@ ASKED = {LOW: ("XXX.OO.O.", "won in 3: 2-3"), HIGH: ("XXXXO.OO.", "draw: 2-5")}
 NOBODY = 65534
 # CLONE_NEWNS of Linux.
 MOUNTS_OF_ONES_OWN = 0x20000
+NO_MOUNTS = "the right to mount (unshare, mount)"
+# No fewer runs are made as another user, on devices, and on one that can only be read.
+OF_ANOTHER_USER, ON_DEVICES, TO_READ = 40, 12, 5
 
 IRREGULAR, IS_A_FOLDER = "not a regular file", "Is a directory"
 NOT_THERE, NOT_A_FOLDER = "No such file or directory", "Not a directory"
@@ -271,19 +275,19 @@ def own(how, *paths):
 
 
 def check_permission(room, files):
-    """Folders and files that another user may not use. Answers what was left out."""
+    """Folders and files that another user may not use."""
     top = f"{room}/permission"
     os.mkdir(top)
     other = other_user(room)
     if other is None:
-        return ["folders without permission, since no other user can run the program"]
+        leave_out(OF_ANOTHER_USER, "another user who can run the program", or_more=True)
+        return
     program, how = other
     how = {**how, "program": program}
     check_closed(top, how)
     check_unwritable(top, how, files)
     check_unreadable(top, how, files)
     check_shared(top, how, files)
-    return []
 
 
 def check_closed(top, how):
@@ -391,11 +395,12 @@ def device(place, options):
 
 
 def check_mounts(room, files):
-    """A full device, and one that can only be read. Answers what was left out."""
-    place, left_out = f"{room}/mount", "full devices and devices that can only be read, since "
+    """A full device, and one that can only be read."""
+    place = f"{room}/mount"
     os.mkdir(place)
-    if shutil.which("mount") is None or not own_mounts():
-        return [f"{left_out}nothing may be mounted"]
+    if not is_there("mount", "umount") or not own_mounts():
+        leave_out(ON_DEVICES, NO_MOUNTS, or_more=True)
+        return
     # So many files a device has room for, its own folder and the lock among them.
     low = {"3-3": files["3-3"]}
     for room_for, done, text in (
@@ -408,10 +413,14 @@ def check_mounts(room, files):
     ):
         with device(place, room_for) as there:
             if not there:
-                return [f"{left_out}no device is made in memory"]
+                leave_out(ON_DEVICES, NO_MOUNTS, or_more=True)
+                return
             check_full(place, room_for, done, text)
     with device(place, "size=1m") as there:
-        return check_read_only(place, files) if there else [f"{left_out}none is made in memory"]
+        if there:
+            check_read_only(place, files)
+        else:
+            leave_out(TO_READ, NO_MOUNTS, or_more=True)
 
 
 def check_full(place, room_for, done, text):
@@ -431,7 +440,8 @@ def check_read_only(place, files):
     folder = f"{place}/tables"
     run([*GRID_BUILD, "--into", folder])
     if not mounted("-o", "remount,ro", place):
-        return ["devices that can only be read, since none can be made such"]
+        leave_out(TO_READ, NO_MOUNTS, or_more=True)
+        return
     wanted = fault(f"28: folder can't be made: {place}/new: {READ_ONLY}")
     check("a folder on a device to read", run([*GRID_BUILD, "--into", f"{place}/new"]), wanted)
     wanted = fault(f"38: folder can't be locked: {folder}: {READ_ONLY}")
@@ -441,13 +451,12 @@ def check_read_only(place, files):
     for name, (text, _) in ASKED.items():
         found = run(["lookup", "grid", "--from", folder, text])
         check(f"lookup of {name} on a device to read", found, looked_up(name, None))
-    return []
 
 
 def check_all(room, files):
-    """Answers what was left out."""
     check_names(f"{room}/names", files)
     check_missing(room, files)
     check_sizes(f"{room}/sizes", files)
     check_lines(f"{room}/lines", files)
-    return check_permission(room, files) + check_mounts(room, files)
+    check_permission(room, files)
+    check_mounts(room, files)

@@ -28,7 +28,8 @@ import sys
 from pathlib import Path
 
 sys.dont_write_bytecode = True
-from runs import MORRIS, MOST_SECONDS, ROOT
+from program import MOST_SECONDS, program
+from steps import ROOT
 
 sys.path.append(f"{ROOT}/bench")
 import picture as drawing
@@ -160,7 +161,7 @@ def edit_counts(_):
 def options_of(command):
     """The options of a command as its help lists them: each with its value, what it does, and what
     stands for it where it is left out."""
-    words = [MORRIS, command, "--help"]
+    words = [program(), command, "--help"]
     done = subprocess.run(words, capture_output=True, check=True, timeout=MOST_SECONDS)
     listed = done.stdout.decode().split("Options:\n")[1].split("\n\n")[0]
     for line in listed.splitlines():

@@ -11,6 +11,7 @@ import packing
 from embedding import EMBED, all_of_grid, check, made_up, make, run
 from packing import read
 from runs import COUNTED, MORRIS, ROOT
+from steps import C_COMPILER, NO_PIP, RUST_COMPILER, can, missing
 from unpacked import answers_in_c, bare, environment, pip, try_unpacked
 
 # Asks for positions of both boards in a process of its own, with nothing of this one.
@@ -25,6 +26,8 @@ print(morris.version())
 """
 # How many positions of a board are asked for through what was installed.
 ASKED = 40
+# How many runs are made of what is installed, of the package for Python, and of the crate.
+TRIED_IN_C, TRIED_BY_PIP, TRIED_BY_CARGO = 6, 11, 5
 
 
 # ---- what is installed
@@ -50,6 +53,7 @@ def try_install(room, out, archive, folder):
     prefix = f"{room}/prefix"
     make(out, f"CORE={archive}", f"PROGRAM={MORRIS}", f"PREFIX={prefix}", "install")
     text = next(made_up())
+    # (where pkg-config isn't there, its file is read)
     found = answers_in_c(room, prefix, f"{EMBED}/examples/best.c", folder, text)
     check("an example that was installed", found, run([f"{out}/best", folder, text]))
     stats = run([f"{prefix}/bin/morris", "stats", "grid", "3-3"], env=bare())
@@ -77,7 +81,7 @@ def shown_programs(room):
             file.write(text)
 
 
-def try_page(room, out, folder):
+def try_page(room, out, folder, lacks):
     """The programs that embed/README.md begins with print what it says, and what they should."""
     place = f"{room}/page"
     os.mkdir(place)
@@ -88,15 +92,18 @@ def try_page(room, out, folder):
     value, best = head.removeprefix(f"{text} ").split(": ")
     import morris
 
-    cc = ["cc", "-std=c99", "-Wall", "-Wextra", "-Werror", f"-I{EMBED}"]
-    run([*cc, f"{place}/game.c", f"{out}/libmorris.a", "-o", f"{place}/in_c"])
-    check("embed/README.md, in C", run([f"{place}/in_c"], cwd=place), "9-10 1 9\n")
+    if can(2, lacks.c):
+        cc = [*C_COMPILER, "-std=c99", "-Wall", "-Wextra", "-Werror", f"-I{EMBED}"]
+        run([*cc, f"{place}/game.c", f"{out}/libmorris.a", "-o", f"{place}/in_c"])
+        check("embed/README.md, in C", run([f"{place}/in_c"], cwd=place), "9-10 1 9\n")
     after = morris.play(text, best)
     found = run([sys.executable, "game.py"], cwd=place, env={**os.environ, "PYTHONPATH": EMBED})
     lines = [f"{it.strip()} {morris.play(text, it.split()[0])}" for it in moves]
     check("embed/README.md, in Python", found, "\n".join([value, *lines, best, ""]))
+    if not can(2, lacks.rust):
+        return
     crate = ["--extern", f"morris_tables={out}/libmorris_tables.rlib", "-L", out]
-    words = ["rustc", "--edition", "2021", *crate, "-l", "static=morris", f"{place}/game.rs"]
+    words = [*RUST_COMPILER, "--edition", "2021", *crate, "-l", "static=morris", f"{place}/game.rs"]
     run([*words, "-o", f"{place}/in_rust"])
     found = run([f"{place}/in_rust"], cwd=place)
     check("embed/README.md, in Rust", found, f"{value}\n{best} {after}\n")
@@ -172,8 +179,8 @@ def try_missing_library(room):
 
 
 def try_types():
-    """The types of the module and of a program that takes it, where mypy is at hand."""
-    if shutil.which("mypy"):
+    """The types of the module and of a program that takes it."""
+    if can(1, missing("mypy")):
         files = [f"{EMBED}/morris.py", f"{EMBED}/tests/typed.py"]
         run(["mypy", "--strict", "--cache-dir=/dev/null", *files])
 
@@ -206,7 +213,7 @@ def try_finding(room, out, crate, folder):
     if done.returncode == 0 or "MORRIS_LIB_DIR names /nowhere" not in done.stderr:
         sys.exit(f"the crate without a library: {done.returncode}, {done.stderr}")
     env["MORRIS_LIB_DIR"] = out
-    if shutil.which("pkg-config"):
+    if can(1, missing("pkg-config")):
         # Beside this copy stands no library.
         os.makedirs(f"{room}/elsewhere")
         crate = shutil.copytree(crate, f"{room}/elsewhere/rust")
@@ -289,13 +296,18 @@ def try_without_kit(room, core, archive):
     refused_without_kit(place, "rt isn't on the PATH")
 
 
-def try_all(room, out, archive, full, classes):
-    """Tries all of this, and gives the path of the archive that was made."""
-    try_page(room, out, classes)
-    try_install(room, out, archive, classes)
-    try_wheel(room, out, archive, classes)
+def try_all(room, out, archive, full, classes, lacks):
+    """Tries all of this, and gives the path of the archive that was made, or None."""
+    try_page(room, out, classes, lacks)
+    if can(TRIED_IN_C, lacks.c):
+        try_install(room, out, archive, classes)
+    if can(TRIED_BY_PIP, lacks.c or NO_PIP):
+        try_wheel(room, out, archive, classes)
     try_types()
-    try_crate(room, out, full, classes)
+    if can(TRIED_BY_CARGO, lacks.rust or missing("cargo")):
+        try_crate(room, out, full, classes)
+    if not can(TRIED_IN_C, lacks.c):
+        return None
     compare_released(archive)
     made = try_archive(room, out, archive)
     try_without_kit(room, archive, made)

@@ -13,7 +13,7 @@ import tempfile
 from datetime import datetime, timezone
 from pathlib import Path
 
-from runs import ROOT
+from steps import ROOT, is_there
 
 sys.path.insert(0, f"{ROOT}/embed/packaging")
 from dist import digests, write_archive
@@ -50,13 +50,13 @@ def said(*words):
 
 
 def kit():
-    """What the kit on the PATH is, by its own words."""
-    return " ".join(said("rt", "version").split())
+    """What the kit on the PATH is, by its own words, or nothing where there is none."""
+    return " ".join(said("rt", "version").split()) if is_there("rt") else ""
 
 
 def compiler():
     """What compiled the C files of embed/."""
-    return said("cc", "--version").splitlines()[0]
+    return said("cc", "--version").splitlines()[0] if is_there("cc") else ""
 
 
 def read(path):

@@ -1,20 +1,20 @@
-"""What scripts of this folder share: how they run the program that `rt ci` proved and built, and
-what they compare its answers with."""
+"""What scripts of this folder share: how they run the program, and what they compare its answers
+with. Which program that is, ci/program.py says."""
 
 import fcntl
 import os
 import re
 import resource
-import shutil
 import signal
 import subprocess
 import tempfile
 from concurrent.futures import ProcessPoolExecutor
 from typing import NamedTuple, Optional
 
-ROOT = os.path.dirname(os.path.dirname(os.path.abspath(__file__)))
-# Another program is named by ci/released alone.
-MORRIS = os.environ.get("MORRIS_PROGRAM", f"{ROOT}/crates/morris/out/morris")
+from program import program
+from steps import NO_C_COMPILER, ROOT, leave_out
+
+MORRIS = program()
 # What the program prints of positions and of a pair of the board grid.
 LOOKED = (
     b"XXX.OO.O.\nown 3 other 3\n0-3\n0-6\n0-8\n1-3\n1-6\n1-8\n2-3\n2-6\n2-8\nmoves 9\nwon in 3\n"
@@ -44,9 +44,10 @@ class Begins(bytes):
 
 
 class Stream(NamedTuple):
-    """How a stream of the program is held up, by ci/streams.c."""
+    """How a stream of the program is held up, by ci/streams.c, of which the library is None where
+    nothing compiles it."""
 
-    library: str
+    library: Optional[str]
     descriptor: int
     # How many bytes a call moves at most, and which call fails, counted from 1: 0 for none.
     most: int = 0
@@ -70,15 +71,6 @@ class Run(NamedTuple):
     name: str = "morris"
     # Whether the input is a folder, which can't be read.
     of_folder: bool = False
-
-
-def library(folder, name):
-    """The library of a file of this folder, compiled by the kit's own clang."""
-    kit = os.path.dirname(os.path.dirname(os.path.realpath(shutil.which("rt"))))
-    made = f"{folder}/{name}.so"
-    words = [f"{kit}/toolchain/bin/clang", "-shared", "-fPIC", "-O2", "-nostdlib", "-fuse-ld=lld"]
-    subprocess.run([*words, f"{ROOT}/ci/{name}.c", "-o", made], check=True)
-    return made
 
 
 def limit(room):
@@ -179,11 +171,20 @@ def judge(run):
     return f"{how}: answered {got} after {calls} calls, and not {run.wanted}"
 
 
+def possible(runs):
+    """The runs that can be made here. The others are left out."""
+    for it in runs:
+        if it.stream and it.stream.library is None:
+            leave_out(1, NO_C_COMPILER)
+        else:
+            yield it
+
+
 def judge_all(runs, at_once=AT_ONCE):
     """Judges runs side by side. Returns how many there were, and why the first wrong one is."""
     counted = 0
     with ProcessPoolExecutor(os.cpu_count()) as pool:
-        for said in pool.map(judge, runs, chunksize=at_once):
+        for said in pool.map(judge, possible(runs), chunksize=at_once):
             counted += 1
             if said is not None:
                 pool.shutdown(cancel_futures=True)

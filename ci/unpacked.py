@@ -14,6 +14,7 @@ from glob import glob
 
 from embedding import check, run
 from runs import COUNTED, LOOKED
+from steps import C_COMPILER, NO_PIP, can, missing, without_c
 
 # A position of the usual board with what `lookup` and the examples say of it, tables in which it
 # is, and a position of the small board.
@@ -25,8 +26,9 @@ SMALL = "XXX.OO.O."
 
 
 def bare(**more):
-    """An environment that knows neither the kit nor this clone."""
-    return {"PATH": "/usr/bin:/bin", "HOME": "/nowhere", "LANG": "C.UTF-8", **more}
+    """An environment that knows neither the kit nor this clone, but the compilers."""
+    tools = {it: os.environ[it] for it in ("AR", "CC", "CXX", "RUSTC") if it in os.environ}
+    return {"PATH": "/usr/bin:/bin", "HOME": "/nowhere", "LANG": "C.UTF-8", **tools, **more}
 
 
 def unpack(archive, room):
@@ -117,8 +119,7 @@ def try_empty_root(room, top):
     """The program in a root in which nothing is but what was unpacked and the C library, and the
     script beside it where a shell is there too."""
     change = changes_root()
-    if change is None:
-        print("an empty root wasn't tried: nobody may change the root here")
+    if not can(10, None if change else "the right to change the root (chroot, unshare)"):
         return
     root = f"{room}/root"
     shutil.copytree(top, f"{root}/morris", symlinks=True)
@@ -150,7 +151,7 @@ def answers_in_c(room, prefix, source, folder, text):
     """What an example writes that was compiled against a prefix alone, and loads the library of
     that."""
     flags = flags_of(f"{prefix}/lib/pkgconfig/morris.pc")
-    run(["cc", "-std=c99", source, *flags, "-o", f"{room}/installed"])
+    run([*C_COMPILER, "-std=c99", source, *flags, "-o", f"{room}/installed"])
     env = bare(LD_LIBRARY_PATH=f"{prefix}/lib")
     return run([f"{room}/installed", folder, text], env=env)
 
@@ -168,7 +169,7 @@ def pip(python, *words, **env):
 def try_in_c(room, top, folder):
     """The example, with the static library in it, and with the shared one."""
     source, made = f"{top}/examples/best.c", f"{room}/best"
-    run(["cc", "-std=c99", f"-I{top}/include", source, f"{top}/lib/libmorris.a", "-o", made])
+    run([*C_COMPILER, "-std=c99", f"-I{top}/include", source, f"{top}/lib/libmorris.a", "-o", made])
     check("the example in C", run([made, folder, TEXT], env=bare()), BEST)
     found = answers_in_c(room, top, source, folder, TEXT)
     check("the example in C, by morris.pc", found, BEST)
@@ -179,11 +180,13 @@ def try_in_python(room, top, folder):
     words = [f"{top}/examples/best.py", folder, TEXT]
     found = run([sys.executable, *words], env=bare(PYTHONPATH=f"{top}/python"), cwd="/")
     check("the example in Python", found, BEST)
-    python = environment(f"{room}/environment")
-    pip(python, "install", "--no-index", wheel_of(top))
-    check("the example in Python, by the wheel", run([python, *words], env=bare(), cwd="/"), BEST)
     serves(sys.executable, f"{top}/python/explorer.py", folder)
-    serves(python, "-m", "morris.explorer", folder)
+    if can(3, NO_PIP):
+        python = environment(f"{room}/environment")
+        pip(python, "install", "--no-index", wheel_of(top))
+        found = run([python, *words], env=bare(), cwd="/")
+        check("the example in Python, by the wheel", found, BEST)
+        serves(python, "-m", "morris.explorer", folder)
 
 
 def serves(*words):
@@ -216,7 +219,9 @@ def try_unpacked(archive, room):
     os.symlink(f"{top}/bin/morris", f"{room}/linked")
     folder = f"{room}/tables"
     answer(f"{room}/linked", folder, bare())
-    try_in_c(room, top, folder)
+    if can(4, without_c()):
+        try_in_c(room, top, folder)
     try_in_python(room, top, folder)
-    try_in_rust(room, top, folder)
+    if can(1, without_c() or missing("cargo", "rustc")):
+        try_in_rust(room, top, folder)
     try_empty_root(room, top)
