@@ -17,7 +17,6 @@ LEFT, UP, RIGHT, DOWN = "\ue012", "\ue013", "\ue014", "\ue015"
 # How long an answer may take, and what is waited for.
 MOST_SECONDS = 60
 MOST_OF_A_WAIT = 20
-PACKAGES = ("chromium", "chromium-driver")
 
 
 class Failed(Exception):
@@ -30,16 +29,6 @@ DIRECTLY = urllib.request.build_opener(urllib.request.ProxyHandler({}))
 
 def is_installed():
     return all(map(shutil.which, ("chromium", "chromedriver")))
-
-
-def install():
-    """Installs the browser, where there is Debian's apt-get; only root may."""
-    if not shutil.which("apt-get"):
-        return
-    words = ["apt-get", "install", "-y", "--no-install-recommends", *PACKAGES]
-    how = {"stdout": subprocess.DEVNULL, "env": {**os.environ, "DEBIAN_FRONTEND": "noninteractive"}}
-    for command in (["apt-get", "update"], words):
-        subprocess.run(command, check=False, **how)
 
 
 def arguments(room):

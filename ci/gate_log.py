@@ -4,7 +4,7 @@ with it, in how many minutes, and which proofs were done in that run."""
 import re
 
 from proving import listed
-from runs import ROOT
+from steps import ROOT
 
 
 class NotPassed(Exception):
@@ -15,9 +15,7 @@ def steps():
     """The steps of the gate from `rt ci` on, in the order in which it prints what they say; those
     before it have then passed too."""
     with open(f"{ROOT}/.ci/run", encoding="utf-8") as it:
-        found = re.findall(r"^(step|row) (.+)$", it.read(), re.MULTILINE)
-    rows = [[names] if kind == "step" else names.split() for kind, names in found]
-    named = [name for row in rows for name in row]
+        named = re.findall(r"^step (.+)$", it.read(), re.MULTILINE)
     return named[named.index("rt ci") :]
 
 
@@ -26,7 +24,8 @@ def gate_of(log, sources):
     has to have passed, and where the log is the gate's, all steps with it, over these sources."""
     with open(log, encoding="utf-8", errors="replace") as it:
         lines = it.read().splitlines()
-    ends = [it for it in lines if re.match(r"\d+ passed, \d+ failed", it)]
+    # (the last line of ./check says too how many steps were skipped)
+    ends = [it for it in lines if re.fullmatch(r"\d+ passed, \d+ failed", it)]
     if not ends or not re.fullmatch(r"[1-9]\d* passed, 0 failed", ends[-1]):
         last = ends[-1] if ends else "no line"
         raise NotPassed(f"in {log} rt ci has not passed over all crates: {last}")
