@@ -358,7 +358,18 @@ def check_hostile(server):
     told = ask(server, "/api/position", 404, board="nine", text="XXXXXOOO................")
     check("the missing pair", told["pair"], "5-3")
     check("what makes it", told["command"].startswith("./morris build nine 5-3 --classes"), True)
+    check_port(server.port)
     return len(requests)
+
+
+def check_port(port):
+    """A request for another port is told which names are answered, with their port."""
+    told = f"this server answers only for 127.0.0.1:{port} and localhost:{port}"
+    for host in (f"localhost:{port + 1}", f"127.0.0.1:{port + 1}", "localhost:"):
+        sent = f"GET /api/pairs HTTP/1.1\r\nHost: {host}\r\nConnection: close\r\n\r\n"
+        answer = answer_to(port, sent.encode(), False)
+        body = answer.partition(b"\r\n\r\n")[2]
+        check(f"the answer for {host}", json.loads(body), {"error": told})
 
 
 def changed(request, chance):

@@ -463,7 +463,9 @@ class Handler(http.server.BaseHTTPRequestHandler):
         if len(hosts) != 1:
             raise Refusal(400, "a request has one Host")
         if hosts[0].strip().lower() not in self.server.hosts:
-            raise Refusal(403, "this server answers only for 127.0.0.1 and localhost")
+            port = self.server.server_port
+            names = f"{ADDRESS}:{port} and localhost:{port}"
+            raise Refusal(403, f"this server answers only for {names}")
         if self.command != "GET":
             raise Refusal(405, "only GET is answered")
         if "Transfer-Encoding" in self.headers or self.headers.get("Content-Length", "0") != "0":
