@@ -3,6 +3,8 @@
  *     library FOLDER < POSITIONS      of the usual board, over views and then by a handle
  *     library FOLDER first < LINE     how many milliseconds the first value and its moves take
  *     library FOLDER calls < POSITIONS    how many milliseconds of a processor the other calls take
+ *     library FOLDER cold < POSITIONS     how many milliseconds by the clock opening takes, and a
+ *                                         best move on average
  *
  * No part of the product.
  */
@@ -156,32 +158,42 @@ static int time_calls(const char *folder, int count) {
     return 0;
 }
 
-int main(int argc, char **argv) {
+/* Each position once, in files that may not be in memory. */
+static int time_cold(const char *folder, int count) {
+    double began = now(), opened;
+    morris_tables *tables = morris_open(folder, MORRIS_NINE, NULL);
+    int i;
+    opened = now();
+    for (i = 0; tables != NULL && i < count; i++) {
+        morris_best(tables, own[i], other[i], moves);
+    }
+    printf("%.3f %.4f\n", 1e3 * (opened - began), 1e3 * (now() - opened) / count);
+    morris_close(tables);
+    return tables == NULL;
+}
+
+/* The first value and its moves, from the opening on. */
+static int time_first(const char *folder) {
+    unsigned long long sum = 0;
+    double began = now();
     morris_folder t;
-    morris_tables *tables;
-    unsigned long long values = 0, lists = 0;
-    double began = now(), least[4] = {1e9, 1e9, 1e9, 1e9};
-    int count = read_all(), i;
-    if (argc < 2 || count == 0) {
-        return 2;
-    }
-    if (argc == 3 && strcmp(argv[2], "calls") == 0) {
-        return time_calls(argv[1], count);
-    }
-    if (argc == 3 && strcmp(argv[2], "first") == 0) {
-        began = now();
-    }
-    if (morris_open_folder(argv[1], MORRIS_NINE, &t) != MORRIS_OK) {
+    if (morris_open_folder(folder, MORRIS_NINE, &t) != MORRIS_OK) {
         return 1;
     }
-    if (argc == 3) {
-        pass(&t, 1, 0, &values);
-        pass(&t, 1, 1, &lists);
-        printf("%.2f\n", 1e3 * (now() - began));
-        return 0;
-    }
-    tables = morris_open(argv[1], MORRIS_NINE, NULL);
-    if (tables == NULL) {
+    pass(&t, 1, 0, &sum);
+    pass(&t, 1, 1, &sum);
+    printf("%.2f\n", 1e3 * (now() - began));
+    return 0;
+}
+
+/* Values and lists of moves, over views and by a handle. */
+static int time_all(const char *folder, int count) {
+    unsigned long long values = 0, lists = 0;
+    double least[4] = {1e9, 1e9, 1e9, 1e9};
+    morris_tables *tables = morris_open(folder, MORRIS_NINE, NULL);
+    morris_folder t;
+    int i;
+    if (tables == NULL || morris_open_folder(folder, MORRIS_NINE, &t) != MORRIS_OK) {
         return 1;
     }
     for (i = 0; i < 5; i++) {
@@ -196,4 +208,19 @@ int main(int argc, char **argv) {
     printf("%llu %llu\n", values, lists);
     morris_close(tables);
     return 0;
+}
+
+int main(int argc, char **argv) {
+    const char *task = argc == 3 ? argv[2] : "";
+    int count = read_all();
+    if (argc < 2 || count == 0) {
+        return 2;
+    }
+    if (strcmp(task, "calls") == 0) {
+        return time_calls(argv[1], count);
+    }
+    if (strcmp(task, "cold") == 0) {
+        return time_cold(argv[1], count);
+    }
+    return strcmp(task, "first") == 0 ? time_first(argv[1]) : time_all(argv[1], count);
 }

@@ -39,7 +39,7 @@ def check(what, found, wanted):
 
 
 def make(out, *words):
-    run(["make", "-s", "-C", EMBED, f"OUT={out}", *words], stdout=None)
+    run(["make", "-s", "-C", EMBED, f"OUT={out}", "WERROR=-Werror", *words], stdout=None)
 
 
 # ---- positions

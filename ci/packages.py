@@ -1,18 +1,21 @@
 """Makes what others take of embed/, and tries it as they would: what `make install` installs, the
 package for Python in fresh environments, the crate for Rust, and the archive of a release."""
 
+import email
 import os
 import re
 import shutil
 import subprocess
 import sys
+from zipfile import ZipFile
 
+import installing
 import packing
 from embedding import EMBED, all_of_grid, check, made_up, make, run
 from packing import read
-from runs import COUNTED, MORRIS, ROOT
+from runs import MORRIS, ROOT
 from steps import C_COMPILER, NO_PIP, RUST_COMPILER, can, missing
-from unpacked import answers_in_c, bare, environment, pip, try_unpacked
+from unpacked import bare, environment, pip, try_unpacked
 
 # Asks for positions of both boards in a process of its own, with nothing of this one.
 ASKS = """
@@ -49,21 +52,17 @@ def asked_here(folder):
 
 
 def try_install(room, out, archive, folder):
-    """Installs into an empty prefix, and runs all that is there."""
-    prefix = f"{room}/prefix"
-    make(out, f"CORE={archive}", f"PROGRAM={MORRIS}", f"PREFIX={prefix}", "install")
-    text = next(made_up())
-    # (where pkg-config isn't there, its file is read)
-    found = answers_in_c(room, prefix, f"{EMBED}/examples/best.c", folder, text)
-    check("an example that was installed", found, run([f"{out}/best", folder, text]))
-    stats = run([f"{prefix}/bin/morris", "stats", "grid", "3-3"], env=bare())
-    check("the program that was installed", stats, COUNTED.decode())
-    sites = [at for at, _, names in os.walk(prefix) if "morris.py" in names]
-    found = asks(sys.executable, folder, PYTHONPATH=sites[0])
+    """What is installed, and the module for Python among it, which needs nothing of what programs
+    are compiled with."""
+    prefix, site = installing.try_install(room, out, archive, folder)
+    found = asks(sys.executable, folder, PYTHONPATH=f"{prefix}/{site}")
     check("the module that was installed", found, asked_here(folder))
-    with open(f"{prefix}/share/man/man1/morris.1", encoding="utf-8") as page:
-        if not page.read().startswith(".TH"):
-            sys.exit("the man page that was installed is none")
+    runs = shutil.copytree(prefix, f"{room}/to-run-with", symlinks=True)
+    shutil.rmtree(f"{runs}/include")
+    os.remove(f"{runs}/lib/libmorris.so")
+    os.remove(f"{runs}/lib/libmorris.a")
+    found = asks(sys.executable, folder, PYTHONPATH=f"{runs}/{site}")
+    check("the module without a library to link to", found, asked_here(folder))
 
 
 # ---- the page
@@ -154,8 +153,9 @@ def try_wheel(room, out, archive, folder):
     python = environment(f"{room}/of-wheel")
     pip(python, "install", "--no-index", f"{out}/{name}")
     check("the wheel", asks(python, folder), wanted)
+    check_metadata(f"{out}/{name}")
     files = run([python, "-m", "pip", "show", "-f", "morris"], env=bare())
-    for it in ("morris/py.typed", "morris/libmorris.so", "licenses/LICENSE", "licenses/NOTICES"):
+    for it in ("morris/py.typed", "morris/libmorris.so.1", "licenses/LICENSE", "licenses/NOTICES"):
         if it not in files:
             sys.exit(f"the wheel has no {it}")
     python = environment(f"{room}/of-folder")
@@ -166,13 +166,51 @@ def try_wheel(room, out, archive, folder):
     try_missing_library(room)
 
 
+# The fields that the metadata of version 2.1 has, each of which may stand once or often.
+ONCE = "Metadata-Version Name Version Summary Author License Keywords Requires-Python"
+OFTEN, TEXT = "Classifier", "Description-Content-Type"
+STRICTLY = """
+import sys
+from zipfile import ZipFile
+try:
+    from packaging.metadata import Metadata
+except ImportError:
+    try:
+        from pip._vendor.packaging.metadata import Metadata
+    except ImportError:
+        sys.exit("skipped")
+wheel = ZipFile(sys.argv[1])
+(name,) = [it for it in wheel.namelist() if it.endswith("/METADATA")]
+print(Metadata.from_email(wheel.read(name), validate=True).version)
+"""
+
+
+def check_metadata(wheel):
+    """A strict reader takes the metadata of a wheel: no field but those of its version, once each;
+    and the reader of the module `packaging`, where it is at hand."""
+    with ZipFile(wheel) as packed:
+        (name,) = [it for it in packed.namelist() if it.endswith("/METADATA")]
+        text = packed.read(name).decode()
+    head = email.message_from_string(text)
+    fields = [it for it in head.keys() if it != OFTEN]
+    if sorted(fields) != sorted([*ONCE.split(), TEXT]) or head["Metadata-Version"] != "2.1":
+        sys.exit(f"the wheel's metadata has the fields {fields}")
+    if not {"Typing :: Typed", "Programming Language :: Python :: 3"} <= {*head.get_all(OFTEN)}:
+        sys.exit(f"the wheel's classifiers are {head.get_all(OFTEN)}")
+    done = subprocess.run([sys.executable, "-c", STRICTLY, wheel], capture_output=True, text=True)
+    if done.stderr.strip() == "skipped":
+        print("skipped: the wheel's metadata by the module packaging, which isn't here")
+    elif done.returncode:
+        sys.exit(f"the module packaging refuses the wheel's metadata: {done.stderr}")
+
+
 def try_missing_library(room):
     """A module without a library says where it looked and how one is made."""
     os.mkdir(f"{room}/alone")
     shutil.copy(f"{EMBED}/morris.py", f"{room}/alone")
     code = "import morris\ntry:\n    morris.version()\nexcept OSError as error:\n    print(error)"
     said = run([sys.executable, "-c", code], env=bare(PYTHONPATH=f"{room}/alone"), cwd="/")
-    places = [f"{room}/{it}/libmorris.so" for it in ("alone", "alone/out", "lib")]
+    places = [f"{room}/{it}/libmorris.so.1" for it in ("alone", "alone/out", "lib")]
     for it in (*places, "make -C embed"):
         if it not in said:
             sys.exit(f"a missing library is told of by {said!r}, which doesn't say {it}")
@@ -187,11 +225,14 @@ def try_types():
 
 # ---- the crate for Rust
 
+LEFT_BY_CARGO = shutil.ignore_patterns("target", "Cargo.lock")
+CARGO_IS_TOLD_BY = ("CARGO_TARGET_DIR", "MORRIS_LIB_DIR", "PKG_CONFIG_PATH")
+
 
 def try_crate(room, out, full, classes):
     """Its tests over tables of both versions, its documents without warnings, and its example."""
     crate = f"{room}/rust"
-    shutil.copytree(f"{EMBED}/rust", crate, ignore=shutil.ignore_patterns("target", "Cargo.lock"))
+    shutil.copytree(f"{EMBED}/rust", crate, ignore=LEFT_BY_CARGO)
     env = {**os.environ, "MORRIS_LIB_DIR": out, "CARGO_TARGET_DIR": f"{room}/target"}
     for folder in (full, classes):
         env["MORRIS_TEST_TABLES"] = folder
@@ -201,7 +242,22 @@ def try_crate(room, out, full, classes):
             sys.exit(f"the crate's tests: {said}")
     env["RUSTDOCFLAGS"] = "-D warnings"
     run(["cargo", "doc", "-q", "--offline", "--no-deps"], cwd=crate, env=env)
+    try_packing(room, out)
     try_finding(room, out, crate, classes)
+
+
+def try_packing(room, out):
+    """`cargo package` builds what it packs, finds the library beside the crate, and packs the
+    licence."""
+    place = f"{room}/packing"
+    crate = shutil.copytree(f"{EMBED}/rust", f"{place}/rust", ignore=LEFT_BY_CARGO)
+    os.symlink(out, f"{place}/out")
+    env = {it: value for it, value in os.environ.items() if it not in CARGO_IS_TOLD_BY}
+    run(["cargo", "package", "-q", "--offline"], cwd=crate, env=env, stderr=subprocess.PIPE)
+    listed = run(["cargo", "package", "-q", "--offline", "--list"], cwd=crate, env=env)
+    check("the crate's licence", read(f"{EMBED}/rust/LICENSE"), read(f"{ROOT}/LICENSE"))
+    if not {"LICENSE", "Cargo.toml", "src/lib.rs"} <= set(listed.split()):
+        sys.exit(f"the crate is packed with {listed.split()}")
 
 
 def try_finding(room, out, crate, folder):
@@ -226,7 +282,7 @@ def try_finding(room, out, crate, folder):
 # ---- the archive of a release
 
 
-def try_archive(room, out, core):
+def try_archive(room, out, core, folder):
     """Two runs give the same bytes, and what is unpacked runs without the kit. Gives its path."""
     words = (f"CORE={core}", f"PROGRAM={MORRIS}")
     made = packing.make_archive(out, *words)
@@ -235,6 +291,8 @@ def try_archive(room, out, core):
         sys.exit("two runs of `make dist` give different bytes")
     run(["sha256sum", "-c", "--quiet", "SHA256SUMS"], cwd=out)
     try_unpacked(made, f"{room}/archive")
+    (top,) = os.listdir(f"{room}/archive/unpacked")
+    installing.try_archive_install(room, f"{room}/archive/unpacked/{top}", folder)
     return made
 
 
@@ -255,7 +313,7 @@ def copy_of_sources(place):
     for folder in ("crates", "embed", "ci"):
         shutil.copytree(f"{ROOT}/{folder}", f"{place}/{folder}", ignore=left)
     os.mkdir(f"{place}/docs")
-    for name in ("crates.txt", "docs/morris.1"):
+    for name in ("LICENSE", "crates.txt", "docs/FILE_FORMAT.md", "docs/morris.1"):
         shutil.copy(f"{ROOT}/{name}", f"{place}/{name}")
     return place
 
@@ -309,6 +367,6 @@ def try_all(room, out, archive, full, classes, lacks):
     if not can(TRIED_IN_C, lacks.c):
         return None
     compare_released(archive)
-    made = try_archive(room, out, archive)
+    made = try_archive(room, out, archive, classes)
     try_without_kit(room, archive, made)
     return made

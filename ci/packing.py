@@ -24,7 +24,7 @@ MOST_BYTES = 3_000_000
 # What the launcher, `make -C embed` and the module for Python take from it, and the parts of the
 # library that C files of embed/ were compiled to.
 PROGRAM, LIBRARY, SHARED = "libexec/morris/morris", "lib/libmorris.a", "lib/libmorris.so.1"
-COMPILED = ("morris_folder.o", "morris_tables.o")
+COMPILED = ("morris_faults.o", "morris_folder.o", "morris_tables.o")
 
 
 def sources(root, *words):

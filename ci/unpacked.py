@@ -181,6 +181,8 @@ def try_in_python(room, top, folder):
     found = run([sys.executable, *words], env=bare(PYTHONPATH=f"{top}/python"), cwd="/")
     check("the example in Python", found, BEST)
     serves(sys.executable, f"{top}/python/explorer.py", folder)
+    if os.path.exists(f"{top}/bin/morris-explorer"):
+        serves(f"{top}/bin/morris-explorer", folder)
     if can(3, NO_PIP):
         python = environment(f"{room}/environment")
         pip(python, "install", "--no-index", wheel_of(top))
@@ -193,7 +195,8 @@ def serves(*words):
     """The explorer gives its page."""
     words = [*words, "--port", "0", "--no-browser"]
     how = {"stdout": subprocess.PIPE, "text": True, "cwd": "/"}
-    with subprocess.Popen(words, env=bare(PYTHONUNBUFFERED="1"), **how) as server:
+    env = bare(PYTHONUNBUFFERED="1", PYTHON=sys.executable)
+    with subprocess.Popen(words, env=env, **how) as server:
         try:
             address = re.search(r"http://\S+", server.stdout.readline())[0]
             with urllib.request.urlopen(address, timeout=60) as page:

@@ -30,7 +30,13 @@
  * except where it says otherwise. Any numbers and any bytes may be passed. The caller sees to it
  * that each pointer is valid: aligned, not null except where that is allowed, and with as many
  * elements behind it as the argument beside it says; and that results overlap nothing else that is
- * passed. Where there are no elements, any pointer that isn't null will do. */
+ * passed. Where there are no elements, any pointer that isn't null will do.
+ *
+ * Since version 1.0.8: `morris_last_fault`, `morris_interface` and MORRIS_OTHER_PAIR are new. With
+ * a handle a file goes by its name: what has the name of a pair's file and isn't its table is
+ * refused by the calls that need the pair, which 1.0.8 answered with MORRIS_NO_TABLE, as if there
+ * were none; and `morris_has` answers 1. A file that the system refuses no longer keeps
+ * `morris_open` from opening the others. */
 #ifndef MORRIS_H
 #define MORRIS_H
 
@@ -41,8 +47,11 @@
 extern "C" {
 #endif
 
-/* The version of this interface: raised when programs have to be changed or compiled again. */
+/* The version of this interface: raised when programs have to be changed or compiled again. The
+ * call answers that of the library that the program runs with, which libmorris.so.1 has in its
+ * name. */
 #define MORRIS_INTERFACE 1
+int32_t morris_interface(void);
 
 /* The version of Morris, as `morris --version` prints it: of this header, and of the library that
  * the program runs with. The text is never freed. */
@@ -85,7 +94,8 @@ enum {
     MORRIS_DIGEST = 16,      /* the digest at the end of a file isn't the digest of its bytes */
     MORRIS_ILLEGAL = 19,     /* the move isn't legal in the position */
     MORRIS_OVER = 20,        /* the game is over: there is no move */
-    MORRIS_DISAGREE = 21     /* what the files say of a position and of its moves disagree */
+    MORRIS_DISAGREE = 21,    /* what the files say of a position and of its moves disagree */
+    MORRIS_OTHER_PAIR = 22   /* a file has the table of another pair than its name says */
 };
 
 /* The system refused a file or memory, and errno says why. */
@@ -132,18 +142,43 @@ typedef struct morris_header {
 /* The open table files of one board. What it has inside may change with the library. */
 typedef struct morris_tables morris_tables;
 
+/* Why a call failed, and where. */
+typedef struct morris_fault {
+    int32_t status;   /* what it answered; MORRIS_OK if none has failed */
+    int32_t system;   /* what errno was, with MORRIS_SYSTEM, and otherwise 0 */
+    uint32_t greater; /* the pair whose table is missing, or whose file is damaged or refused, */
+    uint32_t lesser;  /* the greater number first; both are 0 if it is about no pair */
+    const char *path; /* of the file that is damaged or refused, or of the folder; or null */
+    const char *text; /* all of it in a line of English, as `T/nine-4-4.nmmt: file is too short` */
+} morris_fault;
+
+/* Tells why the last of this thread's calls of "open tables" failed that did: each of these calls
+ * that answers another status than MORRIS_OK notes it for the thread that made it, and one that
+ * answers MORRIS_OK leaves what was noted. So ask after a call that failed, in the same thread. If
+ * a table is missing, there is a pair and no path; if a file is damaged, or the system refuses it,
+ * both; if `morris_open` opens nothing, the path of the folder or file that it failed at, or else
+ * the path that it was given. A path of over 4,095 bytes is cut.
+ *
+ * It is never null. What it points to is this thread's: the library changes it when another of its
+ * calls fails, and the thread's end frees it. Later versions may add members at its end. */
+const morris_fault *morris_last_fault(void);
+
 /* Maps the table files of a board that lie in a folder, under the names that `morris build` gives
  * them: nine-3-3.nmmt, nine-4-3.nmmt and so on to nine-9-9.nmmt, or grid-3-3.nmmt and so on. Files
- * that aren't there are left out. If `path` doesn't exist, it is divided at its colons into several
+ * that aren't there are left out. A file that is there is its pair's, whatever it holds: if it is
+ * damaged, or the system refuses to open it, the calls that need that pair say so, and all other
+ * pairs are answered. If `path` doesn't exist, it is divided at its colons into several
  * folders, as in `tables:/usr/share/morris`: each pair's file is taken from the first folder that
  * has it, and folders without files are skipped. Links are followed. Only headers are looked at
  * here. If a file is of version 2, opening takes some hundredths of a second and 1.4 MB of memory.
+ * The system is told that files are read here and there (POSIX_MADV_RANDOM), so that a value of a
+ * file that isn't in memory has a page or two of it read, and nothing around.
  *
  * Returns null if it opens nothing, and `*status`, unless `status` is null, says why: MORRIS_OK;
  * MORRIS_NO_BOARD; MORRIS_NO_TABLE if there is none of these files; or MORRIS_SYSTEM, and errno
- * says why a file couldn't be opened or mapped, or memory was refused: EINVAL if something with the
- * name of a table file isn't a regular file (a folder, a FIFO or a device isn't opened or waited
- * for); ENOENT if a path is empty.
+ * says why a folder, or each of the files, couldn't be opened or mapped, or memory was refused:
+ * EINVAL if something with the name of a table file isn't a regular file (a folder, a FIFO or a
+ * device isn't opened or waited for); ENOENT if a path is empty.
  *
  * A file that somebody cuts short or changes while it is mapped may end the program (SIGBUS), or
  * give wrong values: files are replaced by renaming, as `morris build` does. */
@@ -152,17 +187,22 @@ morris_tables *morris_open(const char *path, uint32_t board, int32_t *status);
 /* Closes the tables: no call may use them any more. Null may be closed. */
 void morris_close(morris_tables *tables);
 
-/* Whether there is a file with this pair of numbers of stones, either number first: 1 or 0. */
+/* Whether there is a file with the name of this pair of numbers of stones, either number first: 1
+ * or 0. What is in it isn't looked at. */
 int32_t morris_has(const morris_tables *tables, uint32_t greater, uint32_t lesser);
 
-/* The value of a position, for the player to move, with the statuses of `morris_lookup`. A call
- * takes less than a microsecond. */
+/* The value of a position, for the player to move. A call takes less than a microsecond.
+ *
+ * The statuses of `morris_lookup`. If what has the name of the pair's file isn't its table:
+ * MORRIS_SYSTEM if it couldn't be opened, and errno says why; MORRIS_SHORT, MORRIS_MAGIC,
+ * MORRIS_VERSION, MORRIS_OTHER_BOARD, MORRIS_COUNTS, MORRIS_CROWDED, MORRIS_ENTRIES,
+ * MORRIS_TRAILING, MORRIS_OTHER_PAIR: the first that applies. */
 int32_t morris_value_of(const morris_tables *tables, uint32_t own, uint32_t other,
                         morris_value *out);
 
 /* The legal moves of a position, each with its value, in the order and with the statuses of
- * `morris_moves`: `out` has `room` places, of which the first `*count` are filled, and
- * MORRIS_MOST_MOVES are always enough. */
+ * `morris_moves`, and those of `morris_value_of` for a file that isn't its pair's table. `out` has
+ * `room` places, of which the first `*count` are filled: MORRIS_MOST_MOVES are always enough. */
 int32_t morris_moves_of(const morris_tables *tables, uint32_t own, uint32_t other, morris_move *out,
                         size_t room, size_t *count);
 
@@ -172,13 +212,18 @@ int32_t morris_moves_of(const morris_tables *tables, uint32_t own, uint32_t othe
  * draw, so that a slip is likeliest. A table doesn't rank draws: this is a rule of thumb, which
  * looks two plies ahead. It takes some hundredths of a millisecond, and 32 KB of stack.
  *
- * The statuses of `morris_lookup` for the position, and of `morris_moves` for it and, at a draw,
- * for the positions after its drawing moves; MORRIS_OVER; MORRIS_DISAGREE if the best move has
- * another value than the position, as in damaged files: `morris verify` finds them. */
+ * The statuses of `morris_value_of` for the position, and of `morris_moves_of` for it and, at a
+ * draw, for the positions after its drawing moves; MORRIS_OVER; MORRIS_DISAGREE if the best move
+ * has another value than the position, as in damaged files: `morris verify` finds them. */
 int32_t morris_best(const morris_tables *tables, uint32_t own, uint32_t other, morris_move *out);
 
-/* Whether each file is whole, by `morris_check` and `morris_digest`: the status of the first file
- * that isn't. It reads all files, at some two hundred megabytes a second. */
+/* Whether each file is whole and its pair's, by `morris_check` and `morris_digest`: the status of
+ * the first file that isn't, in the order of the path and then of the numbers of stones, the
+ * greater one first. `morris_last_fault` names it. It reads all files, each from end to end, at
+ * some two hundred megabytes a second.
+ *
+ * MORRIS_SYSTEM if a file couldn't be opened, and errno says why; the statuses of `morris_check`;
+ * MORRIS_OTHER_BOARD, MORRIS_OTHER_PAIR; MORRIS_DIGEST. */
 int32_t morris_check_tables(const morris_tables *tables);
 
 /* ---- moves without tables */

@@ -23,7 +23,7 @@ are replaced by renaming, as `morris build` does.
 
 In a clone of Morris the shared library is the one that `make -C embed` made, if it is of the same
 sources as the clone, or else the one in the archive in `release/`, if that is. Elsewhere
-`libmorris.so` is looked for beside this file, in the folder `out` there, in the folder `lib` of a
+`libmorris.so.1` is looked for beside this file, in the folder `out` there, in the folder `lib` of a
 release or of the place to which this file was installed, and then where the system looks. The
 environment variable `MORRIS_LIBRARY` names another. `library` tells which one was taken.
 """
@@ -53,16 +53,19 @@ from typing import (
 )
 
 __all__ = [
+    "Damaged",
     "Fault",
     "Folder",
     "Kind",
     "Library",
+    "MissingTable",
     "Move",
     "Outcome",
     "Ply",
     "Position",
     "Status",
     "Tables",
+    "Unreadable",
     "Value",
     "legal_moves",
     "library",
@@ -71,6 +74,8 @@ __all__ = [
     "version",
 ]
 
+# The version of the interface that is called here.
+_INTERFACE = 1
 # The number of each board, and how many points it has.
 _BOARDS = {"nine": (0, 24), "grid": (1, 9)}
 # What morris.h has in place of a point, and how many moves there are at most.
@@ -111,6 +116,7 @@ class Status(enum.IntEnum):
     ILLEGAL = 19
     OVER = 20
     DISAGREE = 21
+    OTHER_PAIR = 22
     SYSTEM = 100
 
 
@@ -128,13 +134,25 @@ class _Move(ctypes.Structure):
     ]
 
 
+class _Fault(ctypes.Structure):
+    _fields_ = [
+        ("status", ctypes.c_int32),
+        ("system", ctypes.c_int32),
+        ("greater", ctypes.c_uint32),
+        ("lesser", ctypes.c_uint32),
+        ("path", ctypes.c_char_p),
+        ("text", ctypes.c_char_p),
+    ]
+
+
 # A text with these in place of its characters is the mask of a player, as binary digits.
 _OWN = str.maketrans("XO.", "100")
 _OTHER = str.maketrans("XO.", "010")
 
 
 class Fault(Exception):
-    """A call was refused, for what `status` says; `text` is that in English."""
+    """A call was refused, for what `status` says; `text` is that in English. If it is about a file,
+    it is one of `MissingTable`, `Damaged` and `Unreadable`."""
 
     def __init__(self, status: int, text: Optional[str] = None) -> None:
         self.status = Status(status)
@@ -144,6 +162,42 @@ class Fault(Exception):
 
     def __str__(self) -> str:
         return self.text
+
+
+class MissingTable(Fault, KeyError):
+    """No file has the name of `pair`: the numbers of stones, the greater one first, of a position
+    that is asked for or that a move leads to."""
+
+    def __init__(self, pair: Tuple[int, int]) -> None:
+        super().__init__(Status.NO_TABLE, f"no table of {pair[0]}-{pair[1]}")
+        self.pair = pair
+        self.args = (pair,)
+
+
+class Damaged(Fault):
+    """The file at `path` isn't the table of `pair`, which its name says: `reason` is why, that of
+    `status` in English."""
+
+    def __init__(
+        self, status: int, pair: Tuple[int, int], path: str, reason: Optional[str] = None
+    ) -> None:
+        super().__init__(status, reason)
+        self.reason, self.text = self.text, f"{path}: {self.text}"
+        self.pair, self.path = pair, path
+        self.args = (self.status, pair, path, self.reason)
+
+
+class Unreadable(Fault, OSError):
+    """The system refused to open the file at `path`, which has the name of `pair`: `errno`,
+    `strerror` and `filename` are those of `OSError`."""
+
+    def __init__(self, number: int, pair: Tuple[int, int], path: str) -> None:
+        Fault.__init__(self, Status.SYSTEM, f"{path}: {os.strerror(number)}")
+        OSError.__init__(self, number, os.strerror(number), path)
+        self.pair, self.path = pair, path
+
+    def __reduce__(self) -> Tuple[Any, ...]:
+        return type(self), (self.errno, self.pair, self.path)
 
 
 class Kind(enum.IntEnum):
@@ -273,7 +327,7 @@ def _of_clone() -> Optional[Tuple[str, str]]:
 
 def _load() -> Tuple[Library, ctypes.CDLL]:
     """The shared library, and which one it is."""
-    name, folder = "libmorris.so", os.path.dirname(os.path.abspath(__file__))
+    name, folder = "libmorris.so.1", os.path.dirname(os.path.abspath(__file__))
     near = ((), ("out",), ("..", "lib"), ("..", ".."))
     places = [os.path.normpath(os.path.join(folder, *it, name)) for it in near]
     where = f"looked for {', '.join(places)}, and where the system looks"
@@ -315,6 +369,8 @@ def _calls() -> Dict[str, Tuple[Any, List[Any]]]:
         "morris_legal_moves": (status, [number, number, number, *listed]),
         "morris_play": (status, [number] * 3 + [pointer(_Move), pointer(number), pointer(number)]),
         "morris_error": (text, [status]),
+        "morris_last_fault": (pointer(_Fault), []),
+        "morris_interface": (status, []),
         "morris_version": (text, []),
     }
 
@@ -332,6 +388,10 @@ def _library() -> ctypes.CDLL:
                 f"{taken.path} isn't this version of the library of Morris: it has no {call}"
             )
         function.restype, function.argtypes = result, arguments
+    if library.morris_interface() != _INTERFACE:
+        raise OSError(
+            f"{taken.path} isn't this version of the library of Morris: its calls are others"
+        )
     _loaded, _taken = library, taken
     return library
 
@@ -354,6 +414,22 @@ def _done(status: int) -> None:
     """Raises the fault of a status, where it is one."""
     if status != Status.OK:
         raise Fault(status)
+
+
+def _answered(status: int) -> None:
+    """Raises the fault of a call over tables, which the library noted, where it is one."""
+    if status == Status.OK:
+        return
+    told = _library().morris_last_fault().contents
+    pair = told.greater, told.lesser
+    if told.status != status or not any(pair):
+        raise Fault(status)
+    if told.path is None:
+        raise MissingTable(pair)
+    path = os.fsdecode(told.path)
+    if status == Status.SYSTEM:
+        raise Unreadable(told.system, pair, path)
+    raise Damaged(status, pair, path)
 
 
 # The kinds of values by their numbers.
@@ -475,8 +551,9 @@ class Tables:
         if status.value == Status.NO_TABLE:
             raise FileNotFoundError(errno.ENOENT, "no table files of the board", os.fspath(folder))
         if status.value == Status.SYSTEM:
-            why = ctypes.get_errno()
-            raise OSError(why, os.strerror(why), os.fspath(folder))
+            told = _library().morris_last_fault().contents
+            at = os.fspath(folder) if told.path in (None, path) else os.fsdecode(told.path)
+            raise OSError(told.system, os.strerror(told.system), at)
         _done(status.value)
         assert handle is not None
         self._files: Optional[_Files] = _Files(handle)
@@ -496,19 +573,19 @@ class Tables:
 
     def close(self) -> None:
         """Gives the files back, once calls of other threads that are under way have ended. All that
-        is asked after it raises `Fault`, but a second `close`."""
+        is asked after it raises `ValueError`, but a second `close`."""
         self._files = None
 
     def _open_files(self) -> _Files:
         files = self._files
         if files is None:
-            raise Fault(Status.NO_TABLE, "the tables are closed")
+            raise ValueError("the tables are closed")
         return files
 
     @property
     def pairs(self) -> List[Tuple[int, int]]:
-        """The pairs of numbers of stones, the greater one first, that a file names in its header,
-        in order. Raises `Fault` (NO_TABLE) where the tables are closed."""
+        """The pairs of numbers of stones, the greater one first, whose name a file has, in order.
+        What is in a file isn't looked at. Raises `ValueError` where the tables are closed."""
         files, has = self._open_files(), _library().morris_has
         all_pairs = [(a, b) for a in _STONES for b in _STONES if b <= a]
         return [pair for pair in all_pairs if has(files.handle, *pair)]
@@ -524,11 +601,13 @@ class Tables:
         """The value of a position for the player to move.
 
         Raises `TypeError` for what is neither a text nor a tuple or list of ints; `ValueError` for
-        a text or masks that don't fit the board; `Fault` with OVERLAP or STONES where no position
-        is like that, with NO_TABLE where no file has its pair or the tables are closed, and with
-        SHORT, MAGIC, VERSION, OTHER_BOARD, ENTRIES or TRAILING where the file is refused."""
+        a text or masks that don't fit the board, and where the tables are closed; `Fault` with
+        OVERLAP or STONES where no position is like that; `MissingTable` where no file has its pair;
+        `Damaged` where what has the name of that file isn't its table, with SHORT, MAGIC, VERSION,
+        OTHER_BOARD, COUNTS, CROWDED, ENTRIES, TRAILING or OTHER_PAIR; and `Unreadable` where the
+        system refused that file. All three are `Fault`."""
         out = _Value()
-        _done(self._status("morris_value_of", position, out))
+        _answered(self._status("morris_value_of", position, out))
         return _value(out)
 
     @overload
@@ -537,19 +616,19 @@ class Tables:
     def get(self, position: Position, default: _Default) -> Union[Value, _Default]: ...
     def get(self, position: Position, default: Optional[_Default] = None) -> object:
         """The value of a position, or `default` where no file has its pair. Else raises what
-        `value` raises."""
+        `value` raises: a file that is damaged isn't one that is missing."""
         out = _Value()
         status = self._status("morris_value_of", position, out)
         if status == Status.NO_TABLE:
             return default
-        _done(status)
+        _answered(status)
         return _value(out)
 
     def moves(self, position: Position) -> List[Outcome]:
         """The legal moves in order of start, end and taken, each with what it leads to. Raises what
         `value` raises, for the position itself or one that a move leads to."""
         out, count = (_Move * _MOST_MOVES)(), ctypes.c_size_t()
-        _done(self._status("morris_moves_of", position, out, len(out), count))
+        _answered(self._status("morris_moves_of", position, out, len(out), count))
         return [Outcome(_move(it), _value(it.value)) for it in out[:count.value]]
 
     def best(self, position: Position) -> List[Outcome]:
@@ -570,7 +649,7 @@ class Tables:
         status = self._status("morris_best", position, out)
         if status == Status.OVER:
             return None
-        _done(status)
+        _answered(status)
         return Outcome(_move(out), _value(out.value))
 
     def line(self, position: Position) -> List[Ply]:
@@ -596,11 +675,12 @@ class Tables:
         return play(position, move, self.board)
 
     def check_digests(self) -> None:
-        """Reads all files. Raises `Fault` at the first that is damaged: with SHORT, MAGIC, VERSION,
-        OTHER_BOARD, COUNTS, CROWDED, ENTRIES or TRAILING for its header and length, with DIGEST for
-        its digest; and with NO_TABLE where the tables are closed. Whether the values of a file are
-        right, only `morris verify` tells: whoever writes it can write the digest of any values."""
-        _done(self._damage())
+        """Reads all files. Raises `Damaged` at the first that is damaged: with SHORT, MAGIC,
+        VERSION, OTHER_BOARD, COUNTS, CROWDED, ENTRIES, TRAILING or OTHER_PAIR for its header and
+        length, with DIGEST for its digest; `Unreadable` where the system refused it; and
+        `ValueError` where the tables are closed. Whether the values of a file are right, only
+        `morris verify` tells: whoever writes it can write the digest of any values."""
+        _answered(self._damage())
 
     def _damage(self) -> int:
         """The status of the first file that is damaged."""
@@ -614,7 +694,10 @@ def open_tables(folder: Folder, board: str = "nine") -> Tables:
     `morris build` gives them. A path that names nothing that is there is divided at its colons, as
     in `tables:/usr/share/morris`: of each pair the first folder that has its file gives it.
 
-    Raises `FileNotFoundError` where there are none; another `OSError` where the system refuses
-    one, where what has such a name isn't a regular file, and where the shared library isn't found;
+    A file that is damaged, or that the system refuses, is refused where its pair is asked for.
+
+    Raises `FileNotFoundError` where there are none; another `OSError` where the system refuses a
+    folder or each of the files, where nothing that has such a name is a regular file, and where the
+    shared library isn't found;
     `ValueError` for another board, or a path with a NUL byte; `TypeError` for what is no path."""
     return Tables(folder, board)

@@ -1,6 +1,7 @@
-/* The table files of a folder, and the texts of the statuses. */
+/* The table files of a folder. */
 #define _POSIX_C_SOURCE 200809L
 #include "morris_folder.h"
+#include "morris_inside.h"
 
 #include <errno.h>
 #include <fcntl.h>
@@ -10,36 +11,6 @@
 #include <sys/mman.h>
 #include <sys/stat.h>
 #include <unistd.h>
-
-/* Where the version stands in a header, and that of a file by classes. */
-enum { VERSION = 4, BY_CLASSES = 2, HEADER = 16 };
-
-const char *morris_error(int32_t status) {
-    switch (status) {
-    case MORRIS_OK: return "no fault";
-    case MORRIS_NO_BOARD: return "no board with this number";
-    case MORRIS_OFF_BOARD: return "a mask has a point that the board doesn't have";
-    case MORRIS_OVERLAP: return "two stones on a point";
-    case MORRIS_STONES: return "bad number of stones";
-    case MORRIS_NO_TABLE: return "no table of the pair";
-    case MORRIS_NOT_PREPARED: return "words aren't prepared";
-    case MORRIS_ROOM: return "too little room";
-    case MORRIS_SHORT: return "file is too short";
-    case MORRIS_MAGIC: return "not a table file";
-    case MORRIS_VERSION: return "unknown version";
-    case MORRIS_OTHER_BOARD: return "another board";
-    case MORRIS_COUNTS: return "bad counts";
-    case MORRIS_CROWDED: return "more stones than points";
-    case MORRIS_ENTRIES: return "wrong number of entries";
-    case MORRIS_TRAILING: return "bytes after the table";
-    case MORRIS_DIGEST: return "digest is wrong";
-    case MORRIS_ILLEGAL: return "move isn't legal";
-    case MORRIS_OVER: return "the game is over";
-    case MORRIS_DISAGREE: return "the files of this position and its moves disagree";
-    case MORRIS_SYSTEM: return "the system refused a file or memory";
-    default: return "unknown status";
-    }
-}
 
 /* What the words of a folder point to that has none: no call takes a null pointer. */
 static uint32_t no_words;
@@ -77,8 +48,7 @@ static int open_file(const char *name, struct stat *about) {
     return file;
 }
 
-/* Maps a file: 1 where that was done, 0 where there is none, -1 where the system refused. */
-static int map_file(const char *name, morris_view *view) {
+int morris_map_file(const char *name, morris_view *view) {
     static const uint8_t none;
     struct stat about;
     void *bytes;
@@ -97,28 +67,40 @@ static int map_file(const char *name, morris_view *view) {
     if (bytes == MAP_FAILED) {
         return -1;
     }
+    /* Look-ups go here and there: what stands around their bytes isn't worth reading. */
+    posix_madvise(bytes, (size_t)about.st_size, POSIX_MADV_RANDOM);
     view->bytes = bytes;
     view->len = (size_t)about.st_size;
     return 1;
 }
 
+void morris_unmap_file(const morris_view *view) {
+    if (view->len > 0) {
+        munmap((void *)(uintptr_t)view->bytes, view->len);
+    }
+}
+
+int morris_name_file(char *name, const char *folder, uint32_t board, int greater, int lesser) {
+    const char *of = board == MORRIS_NINE ? "nine" : "grid";
+    int length = snprintf(name, MORRIS_PATH, "%s/%s-%d-%d.nmmt", folder, of, greater, lesser);
+    int has_room = length >= 0 && length < MORRIS_PATH;
+    errno = has_room ? errno : ENAMETOOLONG;
+    return has_room;
+}
+
 /* Maps the files of all pairs, in the order of the greater and then of the lesser number. */
-static int32_t map_files(const char *path, const char *board, morris_folder *out) {
-    char name[4096];
+static int32_t map_files(const char *path, uint32_t board, morris_folder *out) {
+    char name[MORRIS_PATH];
     int greater, lesser;
     if (*path == '\0') { /* it isn't the root */
         errno = ENOENT;
         return MORRIS_SYSTEM;
     }
-    for (greater = 3; greater <= 9; greater++) {
-        for (lesser = 3; lesser <= greater; lesser++) {
-            int mapped, length;
-            length = snprintf(name, sizeof name, "%s/%s-%d-%d.nmmt", path, board, greater, lesser);
-            if (length < 0 || (size_t)length >= sizeof name) {
-                errno = ENAMETOOLONG;
-                return MORRIS_SYSTEM;
-            }
-            mapped = map_file(name, &out->files[out->n]);
+    for (greater = MORRIS_FEWEST; greater <= MORRIS_MOST; greater++) {
+        for (lesser = MORRIS_FEWEST; lesser <= greater; lesser++) {
+            int mapped = morris_name_file(name, path, board, greater, lesser)
+                             ? morris_map_file(name, &out->files[out->n])
+                             : -1;
             if (mapped < 0) {
                 return MORRIS_SYSTEM;
             }
@@ -128,20 +110,24 @@ static int32_t map_files(const char *path, const char *board, morris_folder *out
     return out->n > 0 ? MORRIS_OK : MORRIS_NO_TABLE;
 }
 
+int32_t morris_make_words(uint32_t board, uint32_t **words, size_t *m) {
+    size_t count = board == MORRIS_NINE ? MORRIS_NINE_WORDS : morris_prepare_size(board);
+    uint32_t *made = malloc(count * sizeof *made);
+    if (made == NULL) {
+        return MORRIS_SYSTEM;
+    }
+    *words = made;
+    *m = count;
+    return morris_prepare(board, made, count);
+}
+
 /* Prepares the words, where a file is one by classes. */
 static int32_t prepare_words(morris_folder *out) {
     size_t i;
     for (i = 0; i < out->n; i++) {
-        if (out->files[i].len >= HEADER && out->files[i].bytes[VERSION] == BY_CLASSES) {
-            size_t count =
-                out->board == MORRIS_NINE ? MORRIS_NINE_WORDS : morris_prepare_size(out->board);
-            uint32_t *words = malloc(count * sizeof *words);
-            if (words == NULL) {
-                return MORRIS_SYSTEM;
-            }
-            out->words = words;
-            out->m = count;
-            return morris_prepare(out->board, out->words, count);
+        const morris_view *file = &out->files[i];
+        if (file->len >= MORRIS_HEADER && file->bytes[MORRIS_AT_VERSION] == MORRIS_BY_CLASSES) {
+            return morris_make_words(out->board, &out->words, &out->m);
         }
     }
     return MORRIS_OK;
@@ -154,7 +140,7 @@ int32_t morris_open_folder(const char *path, uint32_t board, morris_folder *out)
     if (board != MORRIS_NINE && board != MORRIS_GRID) {
         return MORRIS_NO_BOARD;
     }
-    status = map_files(path, board == MORRIS_NINE ? "nine" : "grid", out);
+    status = map_files(path, board, out);
     if (status == MORRIS_OK) {
         status = prepare_words(out);
     }
@@ -169,9 +155,7 @@ int32_t morris_open_folder(const char *path, uint32_t board, morris_folder *out)
 void morris_close_folder(morris_folder *folder) {
     size_t i;
     for (i = 0; i < folder->n; i++) {
-        if (folder->files[i].len > 0) {
-            munmap((void *)(uintptr_t)folder->files[i].bytes, folder->files[i].len);
-        }
+        morris_unmap_file(&folder->files[i]);
     }
     if (folder->m > 0) {
         free(folder->words);

@@ -1,7 +1,6 @@
 /* Prints the value of a position and its first best move: best FOLDER POSITION. */
 #include "morris.h"
 
-#include <errno.h>
 #include <stdio.h>
 #include <string.h>
 
@@ -50,10 +49,8 @@ int main(int argc, char **argv) {
     }
     if (status == MORRIS_OK) {
         print_answer(value, first_best(moves, count, value));
-    } else if (status == MORRIS_SYSTEM) {
-        fprintf(stderr, "%s: %s\n", argv[1], strerror(errno));
     } else {
-        fprintf(stderr, "%s\n", morris_error(status));
+        fprintf(stderr, "%s\n", morris_last_fault()->text);
     }
     morris_close(tables);
     return status != MORRIS_OK;

@@ -6,7 +6,6 @@
  * one after which the opponent has the fewest moves that keep it too. */
 #include "morris.h"
 
-#include <errno.h>
 #include <stdio.h>
 #include <string.h>
 
@@ -124,12 +123,10 @@ int main(int argc, char **argv) {
     if (status == MORRIS_OK) {
         status = play(&game);
     }
-    if (status == MORRIS_SYSTEM) {
-        fprintf(stderr, "%s: %s\n", argv[1], strerror(errno));
-    } else if (status == MORRIS_OVER) {
+    if (status == MORRIS_OVER) {
         printf("the game is over: who is to move has lost\n");
     } else if (status != MORRIS_OK) {
-        fprintf(stderr, "%s\n", morris_error(status));
+        fprintf(stderr, "%s\n", morris_last_fault()->text);
     }
     morris_close(tables);
     return status != MORRIS_OK && status != MORRIS_OVER;

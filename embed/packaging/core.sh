@@ -30,7 +30,7 @@ unpack_released() {
     trap 'rm -f -- "$made.part"' EXIT
     mkdir -p "$crate/out" || exit 1
     if ! from_archive lib/libmorris.a > "$made.part" ||
-        ! "${AR:-ar}" dD "$made.part" morris_folder.o morris_tables.o; then
+        ! "${AR:-ar}" dD "$made.part" morris_faults.o morris_folder.o morris_tables.o; then
         refuse "$packed can't be unpacked into $crate/out"
     fi
     hold_against "$made.part" "$(told library)"

@@ -3,9 +3,12 @@ the libraries and put the program. It writes there
 
     morris-VERSION-x86_64-linux.tar.gz    the program, its man page, libraries, headers, the wheel,
                                           the modules for Python with the explorer, the crate for
-                                          Rust, examples and licences
+                                          Rust, examples, documents, licences, and what installs it
     the wheel by itself
     SHA256SUMS                            the digests of both
+
+`dist.py OUT FOLDER` writes what the archive holds into a folder instead, but for the wheel: `make
+install` installs from there.
 
 The same files give the same bytes: names are in order, and nobody's name and no time is in them but
 that of SOURCE_DATE_EPOCH, which is 1980 where it isn't set.
@@ -14,6 +17,7 @@ that of SOURCE_DATE_EPOCH, which is 1980 where it isn't set.
 import hashlib
 import io
 import os
+import shutil
 import subprocess
 import sys
 import tarfile
@@ -46,19 +50,22 @@ def package_file():
     return subprocess.run(words, check=True, capture_output=True).stdout
 
 
-def contents(out, wheel):
-    """The files of the archive by their names, without the list of their digests."""
+def contents(out):
+    """The files of the archive by their names, without the wheel and the list of digests."""
     files = {
         "LICENSE": ROOT / "LICENSE",
         "NOTICES": PACKAGING / "NOTICES",
         "README.md": PACKAGING / "RELEASE.md",
         "bin/morris": PACKAGING / "morris.sh",
+        "bin/morris-explorer": PACKAGING / "explorer.sh",
+        "docs/FILE_FORMAT.md": ROOT / "docs" / "FILE_FORMAT.md",
+        "docs/PROGRAMS.md": EMBED / "README.md",
         "include/morris.h": EMBED / "morris.h",
         "include/morris_folder.h": EMBED / "morris_folder.h",
+        "install.sh": PACKAGING / "install.sh",
         "lib/libmorris.a": out / "libmorris.a",
         f"lib/{SONAME}": out / "libmorris.so",
         "libexec/morris/morris": out / "program",
-        f"python/{wheel}": out / wheel,
         "share/man/man1/morris.1": ROOT / "docs" / "morris.1",
     }
     found = {name: path.read_bytes() for name, path in files.items()}
@@ -73,7 +80,17 @@ def digests(files):
 
 
 def is_run(name):
-    return name.startswith(("bin/", "libexec/", "lib/libmorris.so"))
+    return name.startswith(("bin/", "install.sh", "libexec/", "lib/libmorris.so"))
+
+
+def write_tree(folder, files):
+    """Writes files into a new folder, in the place of one that is there."""
+    shutil.rmtree(folder, ignore_errors=True)
+    for name, data in files.items():
+        path = folder / name
+        path.parent.mkdir(parents=True, exist_ok=True)
+        path.write_bytes(data)
+        path.chmod(0o755 if is_run(name) else 0o644)
 
 
 def member(name):
@@ -112,12 +129,16 @@ def write_archive(path, top, files):
 
 
 def main():
-    if len(sys.argv) != 2:
+    if len(sys.argv) not in (2, 3):
         sys.exit(__doc__)
     out = Path(sys.argv[1])
+    files = contents(out)
+    if len(sys.argv) == 3:
+        write_tree(Path(sys.argv[2]), files)
+        return
     wheel = write_wheel(out / "libmorris.so", out)
     top = f"morris-{version()}-x86_64-linux"
-    files = contents(out, wheel)
+    files[f"python/{wheel}"] = (out / wheel).read_bytes()
     files["SHA256SUMS"] = digests(files)
     write_archive(out / f"{top}.tar.gz", top, files)
     made = {it: (out / it).read_bytes() for it in (f"{top}.tar.gz", wheel)}

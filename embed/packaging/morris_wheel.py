@@ -22,6 +22,17 @@ EMBED = Path(__file__).resolve().parent.parent
 NAME = "morris"
 # No file is older in a wheel, which can't tell of times before.
 EPOCH = 315532800
+CLASSIFIERS = (
+    "Development Status :: 5 - Production/Stable",
+    "Intended Audience :: Developers",
+    "License :: OSI Approved :: MIT License",
+    "Operating System :: POSIX :: Linux",
+    "Programming Language :: Python :: 3",
+    "Programming Language :: Python :: 3 :: Only",
+    "Programming Language :: Python :: Implementation :: CPython",
+    "Topic :: Games/Entertainment :: Board Games",
+    "Typing :: Typed",
+)
 SUMMARY = "The values of Nine Men's Morris positions, from the table files that Morris builds"
 
 
@@ -54,11 +65,10 @@ def metadata():
         f"Name: {NAME}",
         f"Version: {version()}",
         f"Summary: {SUMMARY}",
+        "Author: the Morris authors",
         "License: MIT",
-        "License-File: LICENSE",
-        "License-File: NOTICES",
-        "Classifier: Operating System :: POSIX :: Linux",
-        "Classifier: Typing :: Typed",
+        "Keywords: endgame,mill,morris,tablebase",
+        *(f"Classifier: {it}" for it in CLASSIFIERS),
         "Requires-Python: >=3.8",
         "Description-Content-Type: text/markdown",
     ]
@@ -73,7 +83,7 @@ def contents(library):
     files = {
         f"{NAME}/__init__.py": (EMBED / "morris.py").read_bytes(),
         f"{NAME}/py.typed": b"",
-        f"{NAME}/libmorris.so": library,
+        f"{NAME}/libmorris.so.1": library,
         **explorer(),
         f"{info}/METADATA": metadata().encode(),
         f"{info}/WHEEL": "".join(f"{it}\n" for it in about).encode(),
@@ -100,7 +110,7 @@ def entry(name):
     found = zipfile.ZipInfo(name, when[:6])
     found.create_system = 3
     found.compress_type = zipfile.ZIP_DEFLATED
-    found.external_attr = (0o100755 if name.endswith(".so") else 0o100644) << 16
+    found.external_attr = (0o100755 if ".so" in name else 0o100644) << 16
     return found
 
 

@@ -1,9 +1,9 @@
 #!/bin/sh
-# Prints morris.pc, which tells pkg-config of the library: pc.sh PREFIX VERSION.
+# Prints morris.pc, which tells pkg-config of the library: pc.sh PREFIX VERSION [LIBDIR INCLUDEDIR].
 cat << END
 prefix=$1
-libdir=\${prefix}/lib
-includedir=\${prefix}/include
+libdir=${3-\${prefix\}/lib}
+includedir=${4-\${prefix\}/include}
 
 Name: morris
 Description: values of Nine Men's Morris positions from table files

@@ -1,6 +1,6 @@
 //! Finds `libmorris.a`, or else `libmorris.so`: in the folder that the environment variable
 //! `MORRIS_LIB_DIR` names; where a clone or a release of Morris has it beside this crate; or in the
-//! folder that `pkg-config` knows.
+//! folder that `pkg-config` knows. Where docs.rs makes the pages there is none, and none is needed.
 
 use std::env;
 use std::path::{Path, PathBuf};
@@ -12,11 +12,13 @@ fn has_library(folder: &Path) -> bool {
     folder.join("libmorris.a").is_file() || folder.join("libmorris.so").is_file()
 }
 
-/// The folders that a clone (`out`) and a release (`lib`) have beside this crate.
+/// The folders that a clone (`out`) and a release (`lib`) have beside this crate. `cargo package`
+/// tries what it packed in `target/package/NAME` of the crate.
 fn beside() -> Option<PathBuf> {
-    let crate_folder = PathBuf::from(env::var_os("CARGO_MANIFEST_DIR")?);
-    let folders = ["out", "lib"].map(|it| crate_folder.join("..").join(it));
-    folders.into_iter().find(|it| has_library(it))
+    let here = PathBuf::from(env::var_os("CARGO_MANIFEST_DIR")?);
+    let is_packed = here.parent().map_or(false, |it| it.ends_with("target/package"));
+    let above = here.join(if is_packed { "../../../.." } else { ".." });
+    ["out", "lib"].map(|it| above.join(it)).into_iter().find(|it| has_library(it))
 }
 
 fn by_pkg_config() -> Option<PathBuf> {
@@ -47,6 +49,9 @@ fn find() -> Result<PathBuf, String> {
 fn main() {
     println!("cargo:rerun-if-env-changed={NAMED}");
     println!("cargo:rerun-if-env-changed=PKG_CONFIG_PATH");
+    if env::var_os("DOCS_RS").is_some() {
+        return;
+    }
     let folder = find().unwrap_or_else(|why| {
         eprintln!("morris-tables: {why}");
         exit(1);

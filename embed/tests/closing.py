@@ -6,8 +6,7 @@ import os
 import sys
 import threading
 
-from expect import morris, raised, refused, run_python
-from morris import Status
+from expect import morris, raised, raises, run_python
 
 OWN, OTHER, TWO = 0b000_000_111, 0b000_111_000, 0b000_000_011
 CODE = f"""
@@ -58,11 +57,11 @@ def asks_closed(tables):
     for _ in range(2):
         for position in ((OWN, OTHER), (TWO, OTHER), "XXXOOO...", "XX.OOO..."):
             for call in (tables.value, tables.get, tables.moves, tables.best, tables.choose):
-                refused(Status.NO_TABLE, lambda: call(position))
-        refused(Status.NO_TABLE, tables.check_digests)
-        refused(Status.NO_TABLE, lambda: tables.line((OWN, OTHER)))
-        refused(Status.NO_TABLE, lambda: tables.pairs)
-        refused(Status.NO_TABLE, tables.__enter__)
+                raises(ValueError, lambda: call(position))
+        raises(ValueError, tables.check_digests)
+        raises(ValueError, lambda: tables.line((OWN, OTHER)))
+        raises(ValueError, lambda: tables.pairs)
+        raises(ValueError, tables.__enter__)
         assert "closed" in repr(tables)
         tables.close()
 
@@ -117,8 +116,8 @@ def closes_in_threads():
         try:
             while True:
                 answers.append(tables.value((OWN, OTHER)))
-        except morris.Fault as fault:
-            answers.append(fault.status)
+        except ValueError as error:
+            answers.append(str(error))
 
     askers = [threading.Thread(target=ask) for _ in range(4)]
     closers = [threading.Thread(target=tables.close) for _ in range(4)]
@@ -126,7 +125,8 @@ def closes_in_threads():
         thread.start()
     for thread in (*askers, *closers):
         thread.join()
-    assert set(answers) <= {value, Status.NO_TABLE} and answers.count(Status.NO_TABLE) == 4
+    closed = "the tables are closed"
+    assert set(answers) <= {value, closed} and answers.count(closed) == 4
     assert mapped() == 0
 
 

@@ -19,7 +19,8 @@ headers = read("morris.h") + read("morris_folder.h")
 found = re.findall(r"^ +MORRIS_(\w+) = (\d+)[, ]|^#define MORRIS_(\w+) (\d+)u?\b", headers, re.M)
 numbers = {a or b: int(c or d) for a, c, b, d in found}
 statuses = {**{a: int(c) for a, c, _, _ in found if a}, "SYSTEM": numbers["SYSTEM"]}
-assert len(statuses) == 21 and statuses == {it.name: it.value for it in morris.Status}
+assert len(statuses) == 22 and statuses == {it.name: it.value for it in morris.Status}
+assert numbers["INTERFACE"] == morris._INTERFACE == morris._library().morris_interface()
 for kind in morris.Kind:
     assert numbers[kind.name] == kind
 for board, (number, points) in morris._BOARDS.items():
@@ -38,7 +39,7 @@ assert {in_capitals(it) for it in listed} == set(in_rust) and len(listed) == len
 texts = {morris.Fault(it).text for it in morris.Status}
 assert len(texts) == len(statuses) and "unknown status" not in texts
 # None of the greater numbers is written out where it is used.
-sources = ["morris_folder.c", "morris_tables.c", "morris.py"]
+sources = ["morris_faults.c", "morris_folder.c", "morris_tables.c", "morris.py"]
 sources += [str(it.relative_to(EMBED)) for it in Path(EMBED).glob("examples/*.*")]
 sources += [str(it.relative_to(EMBED)) for it in Path(EMBED).glob("rust/*/*.rs")]
 for name in sources:

@@ -23,9 +23,11 @@ def ran(program, *words):
 
 
 def refuses(program, status, *words):
-    """The program ends with this status and a line on standard error, and prints nothing."""
+    """The program ends with this status and a line on standard error, which is given, and prints
+    nothing."""
     found = ran(program, *words)
     assert found[:2] == (status, "") and found[2].count("\n") == 1, (program, words, found)
+    return found[2]
 
 
 BEST = "won in 3\n1-5\n"
@@ -52,7 +54,11 @@ def examine(program, folder, shown, answer):
     refuses(program, 1, folder, "XXXXX.OOOOO.............")
     with tempfile.TemporaryDirectory() as room:
         os.mkfifo(f"{room}/grid-3-3.nmmt")
-        refuses(program, 1, room, GRID)
+        assert f"{room}/grid-3-3.nmmt" in refuses(program, 1, room, GRID)
+        os.remove(f"{room}/grid-3-3.nmmt")
+        open(f"{room}/grid-3-3.nmmt", "wb").close()
+        assert refuses(program, 1, room, GRID) == f"{room}/grid-3-3.nmmt: file is too short\n"
+        assert refuses(program, 1, room, "XXXX..OOO") == "no table of 4-3\n"
         # A folder's name needn't be text.
         name = os.path.join(os.fsencode(room), b"\xff")
         os.symlink(os.path.abspath(folder), name)

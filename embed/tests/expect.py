@@ -28,10 +28,20 @@ def raises(kind, call):
     return error
 
 
+# The statuses of what a file's header, length and digest are refused for.
+OF_A_FILE = "SHORT MAGIC VERSION OTHER_BOARD COUNTS CROWDED ENTRIES TRAILING DIGEST OTHER_PAIR"
+KINDS = {
+    morris.Status.NO_TABLE: morris.MissingTable,
+    morris.Status.SYSTEM: morris.Unreadable,
+    **{morris.Status[it]: morris.Damaged for it in OF_A_FILE.split()},
+}
+
+
 def refused(status, call):
-    """Checks that a call is refused for this."""
-    fault = raises(morris.Fault, call)
-    assert fault.status is status, fault
+    """Checks that a call is refused for this, by the class for it, and gives the fault."""
+    fault = raises(KINDS.get(status, morris.Fault), call)
+    assert fault.status is status and isinstance(fault, morris.Fault), fault
+    return fault
 
 
 def run_python(code, *words, **environment):

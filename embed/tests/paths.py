@@ -18,7 +18,7 @@ signal.alarm({MOST_SECONDS // 3})
 try:
     print(morris.open_tables(sys.argv[1], "grid").value("{TEXT}"))
 except OSError as error:
-    print(type(error).__name__, error.errno, error.filename == sys.argv[1])
+    print(type(error).__name__, error.errno, error.filename == sys.argv[1] + "/grid-3-3.nmmt")
 """
 
 
@@ -66,6 +66,9 @@ def names_of_folders(full):
             assert error.errno == errno.ENOENT and error.filename == os.fspath(path), error
         raises(NotADirectoryError, lambda: opened(f"{folder}/{NAME}"))
         assert raised(lambda: opened("x" * 5000)).errno == errno.ENAMETOOLONG
+        # Of several folders the one that is refused is named.
+        error = raises(NotADirectoryError, lambda: opened(f"{folder}:{folder}/{NAME}:/nowhere"))
+        assert error.filename == f"{folder}/{NAME}", error
     for path in (None, 7, 7.0, [full], (full,), {full}, bytearray(b"x"), object()):
         raises(TypeError, lambda: opened(path))
 
@@ -95,14 +98,15 @@ def pairs(full):
             shutil.copy(f"{full}/{name}", room)
         for name, given in (("grid-4-4.nmmt", b""), ("grid-9-9.nmmt", b"no table, but a text")):
             Path(room, name).write_bytes(given)
-        assert opened(room).pairs == [(3, 3), (5, 3)]
+        # A name is a pair's, whatever the file holds; the board has no pair 9-9.
+        assert opened(room).pairs == [(3, 3), (4, 4), (5, 3)]
 
 
 def libraries(full):
     """The library that is named, one that isn't there, and one that is another."""
     named = os.environ["MORRIS_LIBRARY"]
     assert morris.library() == (named, "which MORRIS_LIBRARY names")
-    code = OPENS.replace(", error.filename == sys.argv[1]", "")
+    code = OPENS.replace(', error.filename == sys.argv[1] + "/grid-3-3.nmmt"', "")
     for name in (f"{full}/none.so", f"{full}/{NAME}", "libc.so.6"):
         assert run_python(code, full, MORRIS_LIBRARY=name) == "OSError None\n", name
 

@@ -2,13 +2,14 @@
 the tables of Grid. A pool that hangs is told of."""
 
 import copy
+import errno
 import multiprocessing
 import pickle
 import sys
 from concurrent.futures import ProcessPoolExecutor
 
 from expect import MOST_SECONDS, morris, raises, run_python
-from morris import Fault, Kind, Move, Outcome, Status, Value
+from morris import Damaged, Fault, Kind, MissingTable, Move, Outcome, Status, Unreadable, Value
 
 POSITIONS = ["XXXOOO...", (0b111, 0b111), "XX.OOO...", (1, 0b111000), "X" * 9, (1 << 32, 7), None]
 
@@ -82,10 +83,22 @@ def faults():
             assert type(other) is Fault and other.status is fault.status
             assert (str(other), repr(other)) == (str(fault), repr(fault))
     raises(ValueError, lambda: Fault(99))
+    of_files = [
+        MissingTable((4, 3)),
+        Damaged(Status.SHORT, (4, 3), "T/grid-4-3.nmmt"),
+        Unreadable(errno.EACCES, (4, 3), "T/grid-4-3.nmmt"),
+    ]
+    for fault in of_files:
+        for other in copies(fault):
+            assert type(other) is type(fault) and vars(other) == vars(fault) and other.args
+            assert (str(other), repr(other)) == (str(fault), repr(fault))
+            assert getattr(other, "filename", None) == getattr(fault, "filename", None)
+    assert str(of_files[1]) == "T/grid-4-3.nmmt: file is too short"
     # A fault is read where the library isn't.
     code = "import pickle; print(pickle.loads(bytes.fromhex(sys.argv[1])))"
-    said = run_python(code, pickle.dumps(raised).hex(), MORRIS_LIBRARY="/nowhere")
-    assert said == f"{raised}\n"
+    for fault in (raised, *of_files):
+        said = run_python(code, pickle.dumps(fault).hex(), MORRIS_LIBRARY="/nowhere")
+        assert said == f"{fault}\n"
 
 
 def start(folder):

@@ -113,11 +113,13 @@ def defaults(folder):
         assert tables.get("XX.OOO" + "." * 18, nothing) == Value(Kind.LOST, 0)
         raises(ValueError, lambda: tables.get("", nothing))
         refused(Status.STONES, lambda: tables.get("X" + "OOO" + "." * 20, nothing))
-        refused(Status.NO_TABLE, lambda: tables.choose(many))
-        refused(Status.NO_TABLE, lambda: tables.line(many))
+        for call in (tables.value, tables.choose, tables.line):
+            fault = refused(Status.NO_TABLE, lambda: call(many))
+            assert fault.pair == (9, 9) and str(fault) == "no table of 9-9"
+            assert isinstance(fault, KeyError)
         line = tables.line("XXXO.O.O" + "." * 16)
         assert line and tables.value(line[-1].position) == (Kind.LOST, 0)
-    refused(Status.NO_TABLE, lambda: tables.get(many, nothing))
+    raises(ValueError, lambda: tables.get(many, nothing))
 
 
 with morris.open_tables(sys.argv[1], "grid") as opened:

@@ -116,6 +116,7 @@ static void refusals(const char *full) {
     is_refused(full, 2, MORRIS_NO_BOARD, 0);
     morris_close(NULL);
     IS(strcmp(morris_version(), MORRIS_VERSION_STRING), 0);
+    IS(morris_interface(), MORRIS_INTERFACE);
 }
 
 /* ---- paths */

@@ -1,5 +1,5 @@
-"""A program whose types are those of the module: typed.py FOLDER, which has the tables of Grid.
-`mypy --strict` passes it."""
+"""A program whose types are those of the module: typed.py FOLDER, which has the tables of Grid and of
+Nine. `mypy --strict` passes it."""
 
 import os
 import sys
@@ -34,6 +34,21 @@ def ask(tables: morris.Tables) -> morris.Value:
     return maybe
 
 
+def raised(tables: morris.Tables, text: str) -> morris.MissingTable:
+    """What is raised for a position whose table is missing."""
+    try:
+        tables.value(text)
+    except (morris.Damaged, morris.Unreadable) as fault:
+        sys.exit(f"{fault.pair}: {fault.path} is refused")
+    except morris.MissingTable as fault:
+        return fault
+    sys.exit(f"{text} has a value")
+
+
 with morris.open_tables(sys.argv[1], "grid") as opened:
     assert str(ask(opened)) == "won in 3"
+with morris.open_tables(sys.argv[1]) as opened:
+    missing = raised(opened, "X" * 9 + "O" * 9 + "." * 6)
+    pair: Tuple[int, int] = missing.pair
+    assert isinstance(missing, KeyError) and pair == (9, 9)
 print("all right")

@@ -1,6 +1,6 @@
 //! What can't be done, and why.
 
-use crate::raw::error_text;
+use crate::raw::{error_text, last_fault};
 use std::fmt;
 use std::io;
 use std::path::PathBuf;
@@ -48,12 +48,14 @@ pub enum Status {
     Over = 20,
     /// What the files say of a position and of its moves disagree.
     Disagree = 21,
+    /// A file has the table of another pair than its name says.
+    OtherPair = 22,
     /// The system refused a file or memory.
     System = 100,
 }
 
 impl Status {
-    const ALL: [Status; 20] = [
+    const ALL: [Status; 21] = [
         Status::NoBoard,
         Status::OffBoard,
         Status::Overlap,
@@ -73,6 +75,7 @@ impl Status {
         Status::Illegal,
         Status::Over,
         Status::Disagree,
+        Status::OtherPair,
         Status::System,
     ];
 
@@ -92,13 +95,29 @@ impl fmt::Display for Status {
 #[derive(Debug)]
 #[non_exhaustive]
 pub enum Error {
-    /// The library refused a position, a move or a file.
+    /// The library refused a position or a move, or the files disagree.
     Refused(Status),
+    /// No file has the pair of a position that is asked for, or that a move leads to.
+    #[non_exhaustive]
+    MissingTable {
+        /// The pair of numbers of stones, the greater one first.
+        pair: (u32, u32),
+    },
+    /// A file isn't the table of the pair that its name says.
+    #[non_exhaustive]
+    Damaged {
+        /// The path of the file.
+        path: PathBuf,
+        /// The pair, the greater number of stones first.
+        pair: (u32, u32),
+        /// Why it isn't.
+        status: Status,
+    },
     /// The library refused for a reason that is newer than this crate.
     Unknown(i32),
-    /// There are no tables to open, or the system refused a file or memory.
+    /// There are no tables to open, or the system refused a folder, a file or memory.
     Open {
-        /// The path that was to be opened.
+        /// The path of what was to be opened: of a file, where one is asked for that was refused.
         path: PathBuf,
         /// Why: of the kind `NotFound` where there is no table file.
         why: io::Error,
@@ -115,7 +134,8 @@ impl Error {
     /// The status that the library refused with, where it did.
     pub fn status(&self) -> Option<Status> {
         match self {
-            Error::Refused(status) => Some(*status),
+            Error::Refused(status) | Error::Damaged { status, .. } => Some(*status),
+            Error::MissingTable { .. } => Some(Status::NoTable),
             _ => None,
         }
     }
@@ -126,6 +146,8 @@ impl fmt::Display for Error {
         match self {
             Error::Refused(status) => status.fmt(f),
             Error::Unknown(number) => f.write_str(error_text(*number)),
+            Error::MissingTable { pair } => write!(f, "no table of {}-{}", pair.0, pair.1),
+            Error::Damaged { path, status, .. } => write!(f, "{}: {status}", path.display()),
             Error::Open { path, why } => write!(f, "{}: {why}", path.display()),
             Error::PositionText => f.write_str("a position is 24 or 9 characters X, O and ."),
             Error::MoveText => f.write_str("a move is a text such as 3-2 or 3-2x22"),
@@ -133,6 +155,31 @@ impl fmt::Display for Error {
         }
     }
 }
+
+/// Two errors of the system are equal where they are of the same kind and number.
+impl PartialEq for Error {
+    fn eq(&self, other: &Error) -> bool {
+        match (self, other) {
+            (Error::Refused(a), Error::Refused(b)) => a == b,
+            (Error::Unknown(a), Error::Unknown(b)) => a == b,
+            (Error::MissingTable { pair: a }, Error::MissingTable { pair: b }) => a == b,
+            (
+                Error::Damaged { path, pair, status },
+                Error::Damaged { path: other_path, pair: other_pair, status: other_status },
+            ) => (path, pair, status) == (other_path, other_pair, other_status),
+            (Error::Open { path: a, why }, Error::Open { path: b, why: other_why }) => {
+                let told = |it: &io::Error| (it.kind(), it.raw_os_error());
+                a == b && told(why) == told(other_why)
+            }
+            (Error::PositionText, Error::PositionText) => true,
+            (Error::MoveText, Error::MoveText) => true,
+            (Error::Board, Error::Board) => true,
+            _ => false,
+        }
+    }
+}
+
+impl Eq for Error {}
 
 impl std::error::Error for Error {
     fn source(&self) -> Option<&(dyn std::error::Error + 'static)> {
@@ -149,5 +196,24 @@ pub(crate) fn done(status: i32) -> Result<(), Error> {
         (0, _) => Ok(()),
         (_, Some(known)) => Err(Error::Refused(known)),
         (number, None) => Err(Error::Unknown(number)),
+    }
+}
+
+/// What a status is of a call over tables, of which the library noted the file.
+pub(crate) fn answered(status: i32) -> Result<(), Error> {
+    if status == 0 {
+        return Ok(());
+    }
+    let fault = last_fault();
+    let (Some(pair), true) = (fault.pair, fault.status == status) else {
+        return done(status);
+    };
+    match (fault.path, Status::of(status)) {
+        (None, _) => Err(Error::MissingTable { pair }),
+        (Some(path), Some(Status::System)) => {
+            Err(Error::Open { path, why: io::Error::from_raw_os_error(fault.system) })
+        }
+        (Some(path), Some(status)) => Err(Error::Damaged { path, pair, status }),
+        (Some(_), None) => Err(Error::Unknown(status)),
     }
 }

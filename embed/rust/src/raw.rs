@@ -1,6 +1,8 @@
 //! The calls of `morris.h`, which says what each of them owes and is owed.
 
-use std::ffi::{c_char, CStr};
+use std::ffi::{c_char, CStr, OsStr};
+use std::os::unix::ffi::OsStrExt;
+use std::path::PathBuf;
 
 /// Stands in the place of a point where no stone is taken.
 pub const NONE: u8 = 255;
@@ -34,6 +36,17 @@ pub struct RawMove {
     pub value: RawValue,
 }
 
+/// Why a call of this thread failed. Later versions may have more members at its end.
+#[repr(C)]
+struct RawFault {
+    status: i32,
+    system: i32,
+    greater: u32,
+    lesser: u32,
+    path: *const c_char,
+    text: *const c_char,
+}
+
 extern "C" {
     pub fn morris_open(path: *const c_char, board: u32, status: *mut i32) -> *mut Handle;
     pub fn morris_close(tables: *mut Handle);
@@ -65,8 +78,34 @@ extern "C" {
         room: usize,
         count: *mut usize,
     ) -> i32;
+    fn morris_last_fault() -> *const RawFault;
     fn morris_error(status: i32) -> *const c_char;
     fn morris_version() -> *const c_char;
+}
+
+/// What the library noted of the last call of this thread that failed.
+pub struct Fault {
+    /// What the call answered.
+    pub status: i32,
+    /// What the system said, where it refused something.
+    pub system: i32,
+    /// The pair that it is about, where it is about one.
+    pub pair: Option<(u32, u32)>,
+    /// The file or folder that it is about, where it is about one.
+    pub path: Option<PathBuf>,
+}
+
+/// Why the last call of this thread failed that did.
+pub fn last_fault() -> Fault {
+    // SAFETY: the library keeps what this points to for this thread, until its next call.
+    let raw = unsafe { &*morris_last_fault() };
+    let path = (!raw.path.is_null()).then(|| {
+        // SAFETY: a path that is there ends with a zero.
+        let bytes = unsafe { CStr::from_ptr(raw.path) }.to_bytes();
+        PathBuf::from(OsStr::from_bytes(bytes))
+    });
+    let pair = (raw.greater != 0).then_some((raw.greater, raw.lesser));
+    Fault { status: raw.status, system: raw.system, pair, path }
 }
 
 /// A line of English that says what a status means.

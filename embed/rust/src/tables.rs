@@ -1,6 +1,6 @@
 //! Open tables.
 
-use crate::error::{done, Error, Status};
+use crate::error::{answered, Error, Status};
 use crate::moves::{Move, Outcome, Value};
 use crate::position::{Board, Position};
 use crate::raw::{self, Handle, RawMove, RawValue, MOST_MOVES};
@@ -32,9 +32,18 @@ impl Tables {
     /// Opens the table files of the usual board that lie in a folder, under the names that
     /// `morris build` gives them. A path that names nothing that is there is divided at its colons,
     /// as in `tables:/usr/share/morris`: of each pair the first folder that has its file gives it.
+    /// A file that is damaged, or that the system refuses, is refused where its pair is asked for.
+    ///
+    /// The files are mapped into memory until the tables are dropped. As long as nobody changes
+    /// them no call does more than Rust's rules allow. But if another program cuts a file short
+    /// meanwhile, a call that needs what was cut off ends the program by the signal SIGBUS, which
+    /// can't be caught as an error; and if it overwrites bytes, calls may give wrong values. So
+    /// replace a file by renaming another to its name, as `morris build` does: the tables keep the
+    /// file that they opened. Where others may write to the files, copy them first.
     ///
     /// # Errors
-    /// [`Error::Open`] where there are none, and where the system refuses one.
+    /// [`Error::Open`] where there are none, and where the system refuses a folder or each of the
+    /// files.
     pub fn open(path: impl AsRef<Path>) -> Result<Tables, Error> {
         Tables::open_board(path, Board::Nine)
     }
@@ -45,10 +54,7 @@ impl Tables {
     /// Those of [`Tables::open`].
     pub fn open_board(path: impl AsRef<Path>, board: Board) -> Result<Tables, Error> {
         let path = path.as_ref();
-        let handle = open_handle(path, board).map_err(|why| {
-            let path = path.to_owned();
-            Error::Open { path, why }
-        })?;
+        let handle = open_handle(path, board)?;
         Ok(Tables { handle, board })
     }
 
@@ -57,13 +63,14 @@ impl Tables {
         self.board
     }
 
-    /// Whether there is a file of this pair of numbers of stones, in either order.
+    /// Whether there is a file with the name of this pair of numbers of stones, in either order.
     pub fn has(&self, greater: u32, lesser: u32) -> bool {
         // SAFETY: the tables are open, and any numbers may be handed in.
         unsafe { raw::morris_has(self.handle.as_ptr(), greater, lesser) == 1 }
     }
 
-    /// The pairs of numbers of stones that there are files of, the greater one first, in order.
+    /// The pairs of numbers of stones whose name a file has, the greater one first, in order. What
+    /// is in a file isn't looked at.
     pub fn pairs(&self) -> Vec<(u32, u32)> {
         let all = (3..=9).flat_map(|greater| (3..=greater).map(move |lesser| (greater, lesser)));
         all.filter(|pair| self.has(pair.0, pair.1)).collect()
@@ -72,13 +79,15 @@ impl Tables {
     /// The value of a position, for the player to move.
     ///
     /// # Errors
-    /// [`Error::Board`]; [`Error::Refused`] with `NoTable` where no file has its pair, and with
-    /// `Short`, `Magic`, `Version`, `OtherBoard`, `Entries` or `Trailing` where its file is none.
+    /// [`Error::Board`]; [`Error::MissingTable`] where no file has its pair; [`Error::Damaged`]
+    /// where what has the name of that file isn't its table, with `Short`, `Magic`, `Version`,
+    /// `OtherBoard`, `Counts`, `Crowded`, `Entries`, `Trailing` or `OtherPair`; [`Error::Open`]
+    /// where the system refused that file.
     pub fn value(&self, position: &Position) -> Result<Value, Error> {
         let (own, other) = self.masks(position)?;
         let mut out = RawValue::default();
         // SAFETY: the tables are open, and the pointers are those of values of this function.
-        done(unsafe { raw::morris_value_of(self.handle.as_ptr(), own, other, &mut out) })?;
+        answered(unsafe { raw::morris_value_of(self.handle.as_ptr(), own, other, &mut out) })?;
         Ok(Value::of(out))
     }
 
@@ -94,7 +103,7 @@ impl Tables {
         let handle = self.handle.as_ptr();
         // SAFETY: the tables are open, `out` has as many places as are named, and the pointers are
         // those of values of this function.
-        done(unsafe {
+        answered(unsafe {
             raw::morris_moves_of(handle, own, other, out.as_mut_ptr(), room, &mut count)
         })?;
         Ok(out[..count].iter().map(Outcome::of).collect())
@@ -116,7 +125,7 @@ impl Tables {
         if status == Status::Over as i32 {
             return Ok(None);
         }
-        done(status)?;
+        answered(status)?;
         Ok(Some(Outcome::of(&out)))
     }
 
@@ -152,10 +161,11 @@ impl Tables {
     /// Whether its values are right, only `morris verify` tells.
     ///
     /// # Errors
-    /// [`Error::Refused`] for the first file that isn't whole.
+    /// [`Error::Damaged`] for the first file that isn't whole; [`Error::Open`] for one that the
+    /// system refused.
     pub fn check_digests(&self) -> Result<(), Error> {
         // SAFETY: the tables are open.
-        done(unsafe { raw::morris_check_tables(self.handle.as_ptr()) })
+        answered(unsafe { raw::morris_check_tables(self.handle.as_ptr()) })
     }
 
     /// The masks of a position of this board.
@@ -167,16 +177,19 @@ impl Tables {
     }
 }
 
-fn open_handle(path: &Path, board: Board) -> io::Result<NonNull<Handle>> {
-    let path = CString::new(path.as_os_str().as_bytes())?;
+fn open_handle(path: &Path, board: Board) -> Result<NonNull<Handle>, Error> {
+    let refused = |why| Error::Open { path: path.to_owned(), why };
+    let text = CString::new(path.as_os_str().as_bytes()).map_err(|it| refused(it.into()))?;
     let mut status = 0;
     // SAFETY: the path ends with a zero, and the pointers are those of values of this function.
-    let handle = unsafe { raw::morris_open(path.as_ptr(), board.number(), &mut status) };
+    let handle = unsafe { raw::morris_open(text.as_ptr(), board.number(), &mut status) };
     NonNull::new(handle).ok_or_else(|| {
         if status == Status::System as i32 {
-            io::Error::last_os_error()
+            let fault = raw::last_fault();
+            let why = io::Error::from_raw_os_error(fault.system);
+            Error::Open { path: fault.path.unwrap_or_else(|| path.to_owned()), why }
         } else {
-            io::Error::new(io::ErrorKind::NotFound, "no table files of the board")
+            refused(io::Error::new(io::ErrorKind::NotFound, "no table files of the board"))
         }
     })
 }

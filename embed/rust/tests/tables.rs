@@ -64,6 +64,23 @@ fn a_full_board_is_lost() {
     assert!(matches!(tables.value(&position("XXXOOO..................")), Err(Error::Board)));
 }
 
+/// Checks that the file in a room is refused for this, by all that need it.
+fn is_damaged(room: &Room, status: Status) {
+    let tables = room.open().unwrap();
+    let full = position("XXXXXXOOO");
+    let file = room.0.join("grid-6-3.nmmt");
+    let answers =
+        [tables.value(&full).err(), tables.best(&full).err(), tables.check_digests().err()];
+    for answer in answers {
+        let why = answer.unwrap();
+        assert_eq!(why.status(), Some(status));
+        assert_eq!(why.to_string(), format!("{}: {status}", file.display()));
+        let Error::Damaged { path, pair, .. } = why else { panic!("{why:?}") };
+        assert_eq!((path, pair), (file.clone(), (6, 3)));
+    }
+    assert!(tables.has(6, 3));
+}
+
 #[test]
 fn a_damaged_file_is_refused() {
     let mut bytes = full_board();
@@ -71,9 +88,33 @@ fn a_damaged_file_is_refused() {
     let room = Room::with("damaged", &bytes);
     assert_eq!(status(room.open().unwrap().check_digests()), Some(Status::Digest));
     bytes.pop();
-    let room = Room::with("short", &bytes);
-    let answer = room.open().unwrap().value(&position("XXXXXXOOO"));
-    assert_eq!(answer.unwrap_err().to_string(), "file is too short");
+    for length in [0, 15, 16, bytes.len()] {
+        is_damaged(&Room::with(&format!("short-{length}"), &bytes[..length]), Status::Short);
+    }
+    is_damaged(&Room::with("zeros", &[0; 400]), Status::Magic);
+    // A file of 5-4, which has 2 * 9! / (5! 4!) positions.
+    let mut bytes = b"NMMT\x01\x01\x05\x04\0\0\0\0\0\0\0\xfc".to_vec();
+    bytes.extend([0; 2 * 252 + 32]);
+    is_damaged(&Room::with("other", &bytes), Status::OtherPair);
+}
+
+#[test]
+fn a_missing_table_and_a_refused_file_are_named() {
+    let room = Room::with("named", &full_board());
+    fs::create_dir(room.0.join("grid-3-3.nmmt")).unwrap();
+    let tables = room.open().unwrap();
+    let (missing, refused) = (position("XXXXOOO.."), position("XXXOOO..."));
+    let why = tables.value(&missing).unwrap_err();
+    assert!(matches!(why, Error::MissingTable { pair: (4, 3), .. }), "{why:?}");
+    assert_eq!((why.status(), &*why.to_string()), (Some(Status::NoTable), "no table of 4-3"));
+    assert_eq!(why, tables.best(&missing).unwrap_err());
+    let why = tables.moves(&refused).unwrap_err();
+    let path = room.0.join("grid-3-3.nmmt");
+    assert_eq!(why, Error::Open { path, why: io::Error::from_raw_os_error(22) });
+    assert_ne!(why, tables.value(&missing).unwrap_err());
+    assert_eq!(tables.check_digests(), Err(why));
+    assert_eq!(tables.pairs(), [(3, 3), (6, 3)]);
+    tables.value(&position("XXXXXXOOO")).unwrap();
 }
 
 #[test]
