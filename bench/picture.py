@@ -1,5 +1,5 @@
-"""Draws docs/pairs.svg, for ci/generated.py, from what bench/pairs put into docs/nine.csv: how many
-positions of each pair are won, drawn and lost for the player to move, and the greatest depth.
+"""Draws docs/pairs.svg, for gate/generated.py, from what bench/pairs put into docs/nine.csv: how
+many positions of each pair are won, drawn and lost for the player to move, and the greatest depth.
 """
 
 import csv

@@ -32,8 +32,8 @@
  * elements behind it as the argument beside it says; and that results overlap nothing else that is
  * passed. Where there are no elements, any pointer that isn't null will do.
  *
- * Since version 1.0.8: `morris_last_fault`, `morris_interface` and MORRIS_OTHER_PAIR are new. With
- * a handle a file goes by its name: what has the name of a pair's file and isn't its table is
+ * New in version 1.0.9: `morris_last_fault`, `morris_interface` and MORRIS_OTHER_PAIR. And with a
+ * handle a file goes by its name: what has the name of a pair's file and isn't its table is
  * refused by the calls that need the pair, which 1.0.8 answered with MORRIS_NO_TABLE, as if there
  * were none; and `morris_has` answers 1. A file that the system refuses no longer keeps
  * `morris_open` from opening the others. */

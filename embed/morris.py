@@ -298,7 +298,7 @@ class Library(NamedTuple):
 
 _loaded: Optional[ctypes.CDLL] = None
 _taken: Optional[Library] = None
-# What the first line means that `ci/library` of a clone prints.
+# What the first line means that `launcher/library` of a clone prints.
 _ORIGINS = {
     "built": "which was built here",
     "stale": "the released one, since embed/out/libmorris.so isn't of these sources: "
@@ -309,10 +309,11 @@ _ORIGINS = {
 
 
 def _of_clone() -> Optional[Tuple[str, str]]:
-    """What `ci/library` prints, if this file stands in a clone of Morris: a key of `_ORIGINS`, and
-    the path. Raises `OSError` where it says that there is no library of the clone's sources."""
+    """What `launcher/library` prints, if this file stands in a clone of Morris: a key of
+    `_ORIGINS`, and the path. Raises `OSError` where it says that there is no library of the clone's
+    sources."""
     folder = os.path.dirname(os.path.realpath(__file__))
-    finder = os.path.join(os.path.dirname(folder), "ci", "library")
+    finder = os.path.join(os.path.dirname(folder), "launcher", "library")
     if os.path.basename(folder) != "embed" or not os.path.isfile(finder):
         return None
     try:

@@ -1,8 +1,8 @@
 #!/bin/sh
 # Makes the proved static library, crates/morris_c/out/libmorris_c.a, where the one that is there
-# isn't of these sources, by what ci/sources noted beside it. Where release/BUILT is of these very
-# sources, it is the one that was built from them, and else, or with MORRIS_FROM_PROOFS=1, `rt lib`
-# makes it.
+# isn't of these sources, by what launcher/sources noted beside it. Where release/BUILT is of these
+# very sources, it is the one that was built from them, and else, or with MORRIS_FROM_PROOFS=1, `rt
+# lib` makes it.
 set -u
 CDPATH='' cd -P -- "$(dirname -- "$0")/../.." || exit 1
 root=$PWD
@@ -18,7 +18,7 @@ refuse() {
     exit 1
 }
 
-. ci/archive.sh || exit 1
+. launcher/archive.sh || exit 1
 
 is_released() {
     [ "${MORRIS_FROM_PROOFS-}" != 1 ] && [ "$(told sources)" = "$now" ]
@@ -48,8 +48,8 @@ the PATH. A release of Morris has it built; CORE=PATH names a libmorris_c.a"
     say "proving and building the library: some minutes, and more where nothing is proved yet"
     ended=$(mktemp) || return 1
     trap 'rm -f -- "$ended"' EXIT
-    # The prover's first, quick pass reads functions too that the library doesn't reach. Since one of
-    # them starts threads, it says of each export that its theorem can't be stated. Whether it is
+    # The prover's first, quick pass reads functions too that the library doesn't reach. Since one
+    # of them starts threads, it says of each export that its theorem can't be stated. Whether it is
     # proved, the verdict tells that comes after that, and `rt lib` ends with it.
     {
         (cd "$crate" && rt lib) 2>&1
@@ -58,13 +58,13 @@ the PATH. A release of Morris has it built; CORE=PATH names a libmorris_c.a"
     return "$(cat "$ended")"
 }
 
-now=$(sh ci/sources) || refuse "the sources can't be read"
-if ! sh ci/sources holds "$made" "$now"; then
+now=$(sh launcher/sources) || refuse "the sources can't be read"
+if ! sh launcher/sources holds "$made" "$now"; then
     if is_released; then
         unpack_released
     else
         prove || exit
     fi
     # (`rt lib` leaves a library alone that it finds up to date, and then `make` would too)
-    touch "$made" && sh ci/sources mark "$made" "$now"
+    touch "$made" && sh launcher/sources mark "$made" "$now"
 fi

@@ -3,7 +3,7 @@
 # the proved static library in it, and INTERFACE has the stamp of the C files in its last line. Of a
 # core of which nothing is noted nobody knows the sources, so then nothing is noted of the library.
 set -u
-sources=../ci/sources
+sources=../launcher/sources
 [ -f "$2.sources" ] || exit 0
 read -r sum size _ < "$2.sources" || exit 1
 sh "$sources" holds "$2" "$sum $size" || exit 0

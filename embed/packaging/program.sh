@@ -13,12 +13,12 @@ refuse() {
     exit 1
 }
 
-. ci/archive.sh
+. launcher/archive.sh
 
-now=$(sh ci/sources)
+now=$(sh launcher/sources)
 if [ -n "$named" ]; then
     cp -- "$named" "$place.part"
-elif sh ci/sources holds "$built" "$now"; then
+elif sh launcher/sources holds "$built" "$now"; then
     cp -- "$built" "$place.part"
 elif [ "$(told sources)" = "$now" ]; then
     hold_archive

@@ -1,0 +1,288 @@
+#!/usr/bin/env python3
+"""Makes the parts of documents that come from the sources, the edits and the program's help.
+
+    python3 gate/generated.py            compares each part with what it has to be; the status is 1
+                                       where one differs
+    python3 gate/generated.py --write    writes them anew; kinds after it are the only ones written,
+                                       which needs no program unless `options` is among them
+
+A part stands between a mark `<!-- from KIND WORDS -->`, of one line or more, and the next line
+`<!-- end -->`; in the man page these are comments of its own form. Kinds:
+
+    definitions FILE NAME..   the definitions of these names, as they stand in crates/FILE
+    source FILE               the whole of crates/FILE
+    edits                     the edits that the prover has to refuse, crate by crate
+    edit-counts               how many there are of each crate
+    options COMMAND           the options of a command, as its help lists them
+    pairs FILE                what bench/pairs put into docs/FILE, as a table
+    picture FILE              the same as a picture, by bench/picture.py
+    took FILE                 what bench/whole put into docs/FILE, as a table
+    proof-seconds             what the first check of each crate takes, by
+    launcher/proof_seconds.txt
+"""
+
+import csv
+import os
+import re
+import subprocess
+import sys
+from pathlib import Path
+
+sys.dont_write_bytecode = True
+sys.path.insert(0, os.path.dirname(os.path.dirname(os.path.abspath(__file__))))
+from tests.lib.chosen import MOST_SECONDS, program
+from tests.lib.steps import ROOT
+
+sys.path.append(f"{ROOT}/bench")
+import picture as drawing
+
+MARKDOWN = ("<!-- from ", " -->", "<!-- end -->")
+MAN = ('.\\" from ', "", '.\\" end')
+BEGINS = re.compile(r"(?:unfoldable |abbrev |pub |use )")
+NAMES = re.compile(
+    r"^\s*(?:unfoldable |abbrev )?(?:pub )?(?:record |data )?([\w-]+)(?: [({]| : )", re.MULTILINE
+)
+# A line of the options in a help: an option, its value, what it does, and the default.
+OPTION = re.compile(r" +(?:-h, )?(--[a-z]+)(?: <(\w+)>)? +(.*?)(?: \[default: (\w+)\])?")
+# Who tries the edits of a folder.
+FOLDERS = {"must-fail": "gate", "edits-at-release": "release"}
+
+
+def documents():
+    """The documents that are written for readers, by their paths from the root."""
+    found = [*os.listdir(ROOT), *(f"docs/{it}" for it in os.listdir(f"{ROOT}/docs"))]
+    return sorted(it for it in found if it.endswith((".md", ".1", ".svg")))
+
+
+def read(path):
+    return Path(ROOT, path).read_text(encoding="utf-8")
+
+
+def marks_of(path):
+    """How a generated part begins and ends in a document."""
+    return MAN if path.endswith(".1") else MARKDOWN
+
+
+def parts_of(path, text):
+    """A document in turn as parts: the words that say what each is made from, or None where it was
+    written by hand, and its lines. Marks are parts of no words."""
+    before, after, end = marks_of(path)
+    words, lines, mark = None, [], []
+    for line in text.splitlines():
+        if words is not None and line == end:
+            yield words, lines
+            yield [], [line]
+            words, lines = None, []
+        elif words is None and (mark or line.startswith(before)):
+            mark.append(line)
+            if line.endswith(after):
+                yield None, lines
+                yield [], mark
+                words = " ".join(mark)[len(before) :].removesuffix(after).split()
+                lines, mark = [], []
+        else:
+            lines.append(line)
+    if words is not None or mark:
+        sys.exit(f"{path}: what is made from {words or mark} has no end")
+    yield None, lines
+
+
+def items_of(text):
+    """The definitions of a file of specs/, each with the comment right above it."""
+    items, here = [], []
+    for line in text.splitlines():
+        is_comment = line.startswith("--")
+        was_comment = bool(here) and here[-1].startswith("--")
+        # A comment that an empty line follows is none of a definition.
+        begins = (is_comment or BEGINS.match(line)) and not was_comment
+        if begins or was_comment and not line:
+            items.append(here)
+            here = []
+        here.append(line)
+    return ["\n".join(it).strip() for it in [*items, here]]
+
+
+def names_of(item):
+    """The names that a definition gives."""
+    code = "\n".join(it for it in item.splitlines() if not it.startswith("--"))
+    return NAMES.findall(code)
+
+
+def definitions(_, file, *names):
+    """The definitions of these names in a file of specs/, in the order of the file."""
+    items = [(it, names_of(it)) for it in items_of(read(f"crates/{file}"))]
+    chosen = [it for it, given in items if set(given) & set(names)]
+    given = {it for _, found in items for it in found}
+    if set(names) - given:
+        sys.exit(f"crates/{file}: doesn't define {sorted(set(names) - given)}")
+    return ["```text", *"\n\n".join(chosen).splitlines(), "```"]
+
+
+def source(_, file):
+    """The whole of a source."""
+    return ["```rust", *read(f"crates/{file}").splitlines(), "```"]
+
+
+def edits_of(crate):
+    """The edits of a crate: the name of each, what it breaks, as the sentence says that it begins
+    with, and who tries it."""
+    for folder, tried in FOLDERS.items():
+        for path in sorted(Path(ROOT, "crates", crate, folder).glob("*.edit")):
+            first = path.read_text(encoding="utf-8").split("\n", 1)[0]
+            breaks = first.removeprefix("# Breaks ").removesuffix(".")
+            yield path.stem, "" if breaks == first else breaks, tried
+
+
+def crates_with_edits():
+    """The crates that have edits, in the order of crates.txt."""
+    listed = re.findall(r"^(\w+)", read("crates.txt"), re.MULTILINE)
+    return [crate for crate in listed if any(True for _ in edits_of(crate))]
+
+
+def edits(_):
+    """A table of the edits of each crate."""
+    made = []
+    for crate in crates_with_edits():
+        made += ["", f"## `{crate}`", "", "| edit | breaks | tried by |", "|---|---|---|"]
+        made += [f"| `{name}` | {breaks} | {tried} |" for name, breaks, tried in edits_of(crate)]
+    return [*made, ""]
+
+
+def edit_counts(_):
+    """How many edits each crate has, and how many there are in all."""
+    rows = {
+        crate: [sum(tried == it for _, _, tried in edits_of(crate)) for it in FOLDERS.values()]
+        for crate in crates_with_edits()
+    }
+    made = ["| crate | tried by the gate | at a release |", "|---|---|---|"]
+    made += [f"| `{crate}` | {here} | {later} |" for crate, (here, later) in rows.items()]
+    here, later = (sum(it) for it in zip(*rows.values()))
+    return [*made, f"| all | {here} | {later} |"]
+
+
+def options_of(command):
+    """The options of a command as its help lists them: each with its value, what it does, and what
+    stands for it where it is left out."""
+    words = [program(), command, "--help"]
+    done = subprocess.run(words, capture_output=True, check=True, timeout=MOST_SECONDS)
+    listed = done.stdout.decode().split("Options:\n")[1].split("\n\n")[0]
+    for line in listed.splitlines():
+        found = OPTION.fullmatch(line)
+        if found is None:
+            sys.exit(f"the help of {command} has a line of another form: {line!r}")
+        if found[1] != "--help":
+            yield found.groups()
+
+
+def options(path, command):
+    """The options of a command, as a table or as items of the man page."""
+    rows = list(options_of(command))
+    if marks_of(path) is MARKDOWN:
+        made = ["| option | what it does | if left out |", "|---|---|---|"]
+        for name, value, does, default in rows:
+            shown = f"{name} {value}" if value else name
+            made.append(f"| `{shown}` | {does} | {default or ''} |")
+        return made
+    made = []
+    for name, value, does, default in rows:
+        escaped = name.replace("-", "\\-")
+        made += [".TP", f'.BI {escaped} " {value}"' if value else f".B {escaped}"]
+        made.append(f"{does}; {default} if left out." if default else f"{does}.")
+    return made
+
+
+def pairs(_, file):
+    """What was found of each pair, as a table."""
+    rows = csv.DictReader(read(f"docs/{file}").splitlines())
+    made = ["| pair | deepest win | deepest loss | won | lost | drawn | SHA-256 |"]
+    made += ["|---|---|---|---|---|---|---|"]
+    for row in rows:
+        counts = " | ".join(f"{int(row[it]):,}" for it in ("won", "lost", "drawn"))
+        depths = f"{row['deepest win']} | {row['deepest loss']}"
+        made.append(f"| {row['pair']} | {depths} | {counts} | `{row['sha256']}` |")
+    return made
+
+
+def picture(_, file):
+    """The same as a picture."""
+    return drawing.picture(read(f"docs/{file}").splitlines())
+
+
+def took(_, file):
+    """What the build and the verification of each pair took, as a table, and of all together."""
+    rows = list(csv.DictReader(read(f"docs/{file}").splitlines()))
+    found = {it: [float(row[it]) for row in rows] for it in rows[0] if it != "pair"}
+    whole = {it: max(has) if it.endswith("bytes") else sum(has) for it, has in found.items()}
+    made = ["| pair | build | processors | memory | verification | processors | memory |"]
+    made += ["|---|---|---|---|---|---|---|"]
+    for row in [*rows, {"pair": "all", **whole}]:
+        shown = [row["pair"]]
+        for name in found:
+            is_size, value = name.endswith("bytes"), float(row[name])
+            shown.append(f"{value / 1e6:,.0f} MB" if is_size else f"{value:,.1f} s")
+        made.append(f"| {' | '.join(shown)} |")
+    return made
+
+
+def proof_seconds(_):
+    """What the first check of each crate takes, as a table, and of all together."""
+    lines = read("launcher/proof_seconds.txt").splitlines()
+    head = [it.removeprefix("# ") for it in lines if it.startswith("#")]
+    rows = [it.split() for it in lines if not it.startswith("#")]
+    made = [*head, "", "| crate | processor seconds |", "|---|---|"]
+    made += [f"| `{crate}` | {int(seconds):,} |" for crate, seconds in rows]
+    return [*made, f"| all | {sum(int(seconds) for _, seconds in rows):,} |"]
+
+
+MAKERS = {
+    "definitions": definitions,
+    "source": source,
+    "edits": edits,
+    "edit-counts": edit_counts,
+    "options": options,
+    "pairs": pairs,
+    "picture": picture,
+    "took": took,
+    "proof-seconds": proof_seconds,
+}
+
+
+def made_anew(path, text, kinds):
+    """A document with its generated parts of these kinds as they have to be, and how many there
+    are."""
+    lines, count = [], 0
+    for words, found in parts_of(path, text):
+        if words and words[0] in kinds:
+            found = MAKERS[words[0]](path, *words[1:])
+            count += 1
+        lines += found
+    return "".join(f"{line}\n" for line in lines), count
+
+
+def hold(writes=False, kinds=MAKERS):
+    """Holds the parts of these kinds in the documents against what is made of the sources, or
+    writes it into them. Gives how many parts there are."""
+    wrong, parts = [], 0
+    for path in documents():
+        text = read(path)
+        wanted, count = made_anew(path, text, kinds)
+        parts += count
+        if wanted != text:
+            wrong.append(path)
+            if writes:
+                Path(ROOT, path).write_text(wanted, encoding="utf-8")
+    if wrong and not writes:
+        said = "differs from what is made of the sources: python3 gate/generated.py --write"
+        sys.exit(f"{', '.join(wrong)}: {said}")
+    return parts
+
+
+def main():
+    writes, kinds = sys.argv[1:2] == ["--write"], sys.argv[2:]
+    if sys.argv[1:] and not writes or not MAKERS.keys() >= {*kinds}:
+        sys.exit(__doc__)
+    print(f"{hold(writes, kinds or MAKERS)} parts of documents are made of the sources")
+
+
+if __name__ == "__main__":
+    main()
