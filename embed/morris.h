@@ -32,11 +32,11 @@
  * elements behind it as the argument beside it says; and that results overlap nothing else that is
  * passed. Where there are no elements, any pointer that isn't null will do.
  *
- * New in version 1.0.9: `morris_last_fault`, `morris_interface` and MORRIS_OTHER_PAIR. And with a
- * handle a file goes by its name: what has the name of a pair's file and isn't its table is
- * refused by the calls that need the pair, which 1.0.8 answered with MORRIS_NO_TABLE, as if there
- * were none; and `morris_has` answers 1. A file that the system refuses no longer keeps
- * `morris_open` from opening the others. */
+ * New since the first archive of 1.0.8: `morris_last_fault`, `morris_interface` and
+ * MORRIS_OTHER_PAIR. And with a handle a file goes by its name: what has the name of a pair's file
+ * and isn't its table is refused by the calls that need the pair, which the library of that archive
+ * answered with MORRIS_NO_TABLE, as if there were none; and `morris_has` answers 1. A file that the
+ * system refuses no longer keeps `morris_open` from opening the others. */
 #ifndef MORRIS_H
 #define MORRIS_H
 
