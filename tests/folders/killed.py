@@ -86,20 +86,32 @@ class Build:
         self.folder, self.files = folder, files_of(PAIR, classes)
         self.child = subprocess.Popen([MORRIS, *words_of(folder, PAIR, classes)], **QUIET)
         self.is_doomed = False
+        # Nobody kills it while it is stopped, since its lock would be free then.
+        self.stopped = threading.Lock()
 
     def kill_after(self, seconds):
-        """Kills it then, if it hasn't ended."""
+        """Kills it then, if it hasn't ended, or once it goes on."""
         self.is_doomed = True
-        threading.Timer(seconds, self.child.kill).start()
+        threading.Timer(seconds, self.kill).start()
+
+    def kill(self):
+        with self.stopped:
+            self.child.kill()
 
     def stop(self):
         """Stops it, and says whether it hadn't ended before."""
+        self.stopped.acquire()
         os.kill(self.child.pid, signal.SIGSTOP)
         found = os.waitid(os.P_PID, self.child.pid, os.WSTOPPED | os.WEXITED | os.WNOWAIT)
-        return found.si_code == os.CLD_STOPPED
+        if found.si_code != os.CLD_STOPPED:
+            self.stopped.release()
+            return False
+        return True
 
     def go_on(self):
-        os.kill(self.child.pid, signal.SIGCONT)
+        if self.stopped.locked():
+            os.kill(self.child.pid, signal.SIGCONT)
+            self.stopped.release()
 
     def is_there(self):
         """Whether all that it wrote is there, and at the end of the list of digests."""
@@ -226,8 +238,10 @@ class Race(WholeCase):
         (other,) = (it for it in builds if it not in ended)
         if not other.stop():
             return self.check_ended(builds)
-        how = self.check_first(ended[0])
-        other.go_on()
+        try:
+            how = self.check_first(ended[0])
+        finally:
+            other.go_on()
         return [how, *self.check_ended(first_to_end(other))]
 
     def races(self, folder, seed):
