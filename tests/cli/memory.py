@@ -11,7 +11,6 @@ The last tests have the largest request told of runs that read a file of the usu
 
 import hashlib
 import math
-import os
 import re
 import unittest
 from pathlib import Path

@@ -1,6 +1,5 @@
 """What the scripts share that run the library of embed/: commands, positions, and answers."""
 
-import os
 import random
 import subprocess
 import sys

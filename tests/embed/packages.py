@@ -11,7 +11,7 @@ from zipfile import ZipFile
 
 from tests.embed import installing
 from gate import packing
-from tests.embed.common import EMBED, all_of_grid, check, made_up, make, run
+from tests.embed.common import EMBED, all_of_grid, check, made_up, run
 from gate.packing import read
 from tests.lib.program import MORRIS, ROOT
 from tests.lib.steps import C_COMPILER, NO_PIP, RUST_COMPILER, can, missing

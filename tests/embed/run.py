@@ -40,7 +40,8 @@ from tests.lib.chosen import is_released
 from tests.lib.rules import BOARDS
 from tests.lib.program import MORRIS
 from tests.embed.static_library import NO_LIBRARY, core, shared_library, without_static
-from tests.lib.steps import C_COMPILER, CPP_COMPILER, NO_C_COMPILER, NO_CPP_COMPILER, ROOT, RUST_COMPILER
+from tests.lib.steps import C_COMPILER, CPP_COMPILER, NO_C_COMPILER, NO_CPP_COMPILER, ROOT
+from tests.lib.steps import RUST_COMPILER
 from tests.lib.steps import can, conclude, is_there, leave_out, missing
 
 # How many positions with any numbers of stones are asked for their moves, and how many of these the

@@ -17,7 +17,7 @@ import urllib.parse
 
 from tests.explorer.server import EMBED, SEED, Server, Wrong, all_of_grid, check, note_runs
 from tests.explorer.server import looked_up, made_up, make_package, stats_of
-from tests.lib.rules import BOARDS, positions, read_text, text_of
+from tests.lib.rules import BOARDS, read_text, text_of
 
 # How many positions of the usual board are asked for, and how many requests so many clients make.
 ASKED = 2_000
