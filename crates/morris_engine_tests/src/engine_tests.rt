@@ -1,12 +1,11 @@
 ghost use Rattle.std.specs.Prelude.{◌≡◌, ◌<◌, ◌≤◌, ◌^◌};
 
-use crate::bares::{BareGraph, Bares};
-use crate::checks::{holds, same, same_codes, same_nodes};
+use crate::checks::{holds, same, same_nodes};
 use crate::lones::{LoneGraph, Lones};
 use crate::pairs::{PairGraph, Pairs};
 use crate::runs::{advance, blocks_after, blocks_of, send};
 use crate::trios::TrioGraph;
-use morris_wave::{AdvanceFault, Applied, Batch, Block, Cut, Exits, Graph, Levels, scatter};
+use morris_wave::{AdvanceFault, Block, Cut, Levels};
 use std::alloc::Global;
 use std::process::Abort;
 
@@ -33,26 +32,6 @@ fn two_nodes_in_five_blocks(rt: HostRuntime) {
     has_range(&rt, &cut, 4, 1, 2);
     same(&rt, cut.block_of(0), 2, "block of node 0");
     same(&rt, cut.block_of(1), 4, "block of node 1");
-}
-
-#[test]
-fn summaries_take_one_exit_after_another(rt: HostRuntime) {
-    let exits = Exits::NONE.with(5).with(2).with(9).with(8);
-    holds(&rt, exits.least_lost == Some(4), "least lost");
-    holds(&rt, exits.greatest_won == Some(7), "greatest won");
-    holds(&rt, !exits.drawn, "none drawn");
-    holds(&rt, exits.with(0).drawn, "one drawn");
-}
-
-#[test]
-fn stretches_are_read_as_single_nodes_are(rt: HostRuntime) {
-    let mut counts = [7u16; 2];
-    let mut exits = [Exits::NONE.with(3); 2];
-    PAIR.read_nodes(0, &mut counts, &mut exits);
-    same_codes(&rt, &counts, &[1, 0], "quiet results");
-    holds(&rt, exits[0] == Exits::NONE, "no exits");
-    holds(&rt, exits[1].least_lost == Some(40), "least lost");
-    holds(&rt, exits[1].drawn, "one drawn");
 }
 
 // The nodes that are fresh in a block.
@@ -87,25 +66,6 @@ fn nothing_is_fresh_before_the_first_wave(rt: HostRuntime) {
     is_open(&rt, rt.alloc(), right, 41);
 }
 
-#[test]
-fn a_block_waits_for_its_sources(rt: HostRuntime) {
-    let mut blocks = blocks_of(rt.alloc(), &PAIR, 2).expect(&rt, "blocks");
-    holds(&rt, advance(&mut blocks).is_some(), "both went on");
-    let [_, right] = blocks.as_mut_slice() else {
-        panic!(rt; "not two blocks");
-    };
-    holds(&rt, !right.is_complete(), "not complete");
-    let answer = right.advance();
-    holds(
-        &rt,
-        matches!(answer, Err(AdvanceFault::NotComplete)),
-        "refused",
-    );
-    same(&rt, u64::from(right.wave()), 1, "wave");
-    same(&rt, right.number(), 1, "number");
-    same(&rt, right.level(), 7, "level");
-}
-
 // What the block of the one node shows at a wave.
 fn is_lone(rt: &impl Abort, block: &Block<Lones>, wave: u16, code: u16) {
     same(rt, u64::from(block.wave()), u64::from(wave), "wave");
@@ -114,18 +74,6 @@ fn is_lone(rt: &impl Abort, block: &Block<Lones>, wave: u16, code: u16) {
     let range = block.range();
     assert!(rt; range.start == 0 && range.end == 1);
     same(rt, u64::from(block.code(0)), u64::from(code), "code");
-}
-
-#[test]
-fn an_exit_comes_due_a_wave_after_its_depth(rt: HostRuntime) {
-    // The only exit of the only node is lost in 0: the node is won in 1, from wave 1 on.
-    let mut blocks = blocks_of(rt.alloc(), &LoneGraph { level: 2 }, 1).expect(&rt, "blocks");
-    let [block] = blocks.as_mut_slice() else {
-        panic!(rt; "not one block");
-    };
-    is_lone(&rt, block, 0, 0);
-    holds(&rt, block.advance().is_ok(), "went on");
-    is_lone(&rt, block, 1, 2);
 }
 
 // The node is decided, and the block isn't settled yet.
@@ -197,62 +145,4 @@ fn a_trio_finds_a_node_at_waves_6_9_and_10(rt: HostRuntime) {
     finds(&rt, rt.alloc(), 10, &[2]);
     finds(&rt, rt.alloc(), 42, &[]);
     finds(&rt, rt.alloc(), 43, &[]);
-}
-
-// Three nodes without any result, all of which are found at wave 1.
-const BARE: BareGraph = BareGraph { level: 3 };
-
-// The batches of the last two nodes that the block found, split off, and those of the first one.
-fn pieces(alloc: Global, block: &Block<Bares>) -> Option<(Vec<Batch<Bares>>, Vec<Batch<Bares>>)> {
-    if block.level() != BARE.level() {
-        return None;
-    }
-    let mut fresh = block.fresh(alloc).ok()?;
-    if fresh.nodes().len() < 2 {
-        return None;
-    }
-    let piece = fresh.split_off(1).ok()?;
-    let of_piece = scatter(alloc, &BARE, &piece).ok()?;
-    Some((of_piece, scatter(alloc, &BARE, &fresh).ok()?))
-}
-
-// What the block answers to the only one of these batches, and whether it is complete then.
-fn answers(
-    rt: &impl Abort,
-    block: &mut Block<Bares>,
-    batches: &[Batch<Bares>],
-    want: Applied,
-    is_complete: bool,
-) {
-    let [batch] = batches else {
-        panic!(rt; "not one batch");
-    };
-    holds(rt, block.apply(batch) == want, "answer");
-    holds(rt, block.is_complete() == is_complete, "complete");
-}
-
-// The last two nodes that the block found are split off.
-fn splits(rt: &impl Abort, alloc: Global, block: &Block<Bares>) {
-    let mut fresh = block.fresh(alloc).expect(rt, "memory");
-    same_nodes(rt, fresh.nodes(), &[0, 1, 2], "fresh");
-    assert!(rt; fresh.nodes().len() > 1);
-    let piece = fresh.split_off(1).expect(rt, "memory");
-    same_nodes(rt, fresh.nodes(), &[0], "rest");
-    same_nodes(rt, piece.nodes(), &[1, 2], "piece");
-}
-
-#[test]
-fn pieces_are_taken_in_from_the_last_one_on(rt: HostRuntime) {
-    let mut blocks = blocks_of(rt.alloc(), &BARE, 1).expect(&rt, "blocks");
-    holds(&rt, advance(&mut blocks).is_some(), "went on");
-    let [block] = blocks.as_mut_slice() else {
-        panic!(rt; "not one block");
-    };
-    splits(&rt, rt.alloc(), block);
-    let (piece, rest) = pieces(rt.alloc(), block).expect(&rt, "pieces");
-    answers(&rt, block, &rest, Applied::Again, false);
-    answers(&rt, block, &piece, Applied::Done, false);
-    answers(&rt, block, &piece, Applied::Again, false);
-    answers(&rt, block, &rest, Applied::Done, true);
-    answers(&rt, block, &rest, Applied::Again, true);
 }

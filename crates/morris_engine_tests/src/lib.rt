@@ -1,5 +1,5 @@
-//! Small graphs with exits, gates and watches for tests, and the tests of what needs no table: of
-//! the engine, and of boards, positions, moves and numberings.
+//! Small graphs with exits, gates, watches and streams for tests, and the tests of what needs no
+//! table: of the engine, and of boards, positions, moves and numberings.
 //!
 //! No part of the product: nothing that is built for use stands on this crate. What it has public
 //! is what other crates of tests take.
@@ -9,13 +9,13 @@
 mod bares;
 #[cfg(test)]
 mod checks;
+pub mod counting;
+pub mod digests;
 pub mod drip;
 #[cfg(test)]
 mod engine_tests;
-#[cfg(test)]
 mod flags;
-#[cfg(test)]
-mod gates;
+pub mod gates;
 #[cfg(test)]
 mod gathering_tests;
 #[cfg(test)]
@@ -26,8 +26,7 @@ mod pairs;
 #[cfg(test)]
 mod rules;
 mod runs;
-#[cfg(test)]
-mod scribes;
+pub mod scribes;
 #[cfg(test)]
 mod solver_tests;
 #[cfg(test)]

@@ -107,33 +107,23 @@ fn the_last_exit_that_is_waited_for_is_lost_in_65532(rt: HostRuntime) {
 
 #[test]
 fn too_deep_graphs_are_not_solved(rt: HostRuntime) {
-    let deep = LoneGraph { level: 2 * 65534 };
-    refuses(&rt, rt.alloc(), &deep, &OpenGate, 1, 1, SolveFault::TooDeep);
-    let deeper = LoneGraph { level: 2 * 65535 };
-    refuses(
-        &rt,
-        rt.alloc(),
-        &deeper,
-        &OpenGate,
-        1,
-        1,
-        SolveFault::TooDeep,
-    );
-}
-
-// What is said of numbers of workers and blocks.
-fn is_refused(rt: &impl Abort, workers: usize, blocks: usize, want: SolveFault) {
-    let answer = check_numbers(workers, blocks);
-    holds(rt, matches!(answer, Err(fault) if fault == want), "fault");
+    for level in [2 * 65534, 2 * 65535] {
+        let deep = LoneGraph { level };
+        refuses(&rt, rt.alloc(), &deep, &OpenGate, 1, 1, SolveFault::TooDeep);
+    }
 }
 
 #[test]
 fn numbers_out_of_range_are_refused_workers_first(rt: HostRuntime) {
-    is_refused(&rt, 0, 2, SolveFault::Workers);
-    is_refused(&rt, 65, 2, SolveFault::Workers);
-    is_refused(&rt, 0, 0, SolveFault::Workers);
-    is_refused(&rt, 2, 0, SolveFault::Blocks);
-    is_refused(&rt, 2, 1025, SolveFault::Blocks);
+    for (workers, blocks, fault) in [
+        (0, 2, SolveFault::Workers),
+        (65, 2, SolveFault::Workers),
+        (0, 0, SolveFault::Workers),
+        (2, 0, SolveFault::Blocks),
+        (2, 1025, SolveFault::Blocks),
+    ] {
+        refuses(&rt, rt.alloc(), &PAIR, &OpenGate, workers, blocks, fault);
+    }
     holds(&rt, check_numbers(64, 1024).is_ok(), "the greatest numbers");
 }
 

@@ -3,7 +3,7 @@ use std::alloc::{AllocError, Global};
 use std::fmt::{Debug, Display};
 
 /// A request of so many bytes opens or closes the stretch in which requests are counted.
-/// `ci/refuse.c` knows it.
+/// `tests/lib/refuse.c` knows it.
 const MARK: usize = 7_777_777;
 
 /// Opens or closes the stretch in which a request may be refused.

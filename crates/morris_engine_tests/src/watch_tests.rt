@@ -38,11 +38,10 @@ fn tells<G: Graph + Send + Sync, A: Gate, R: Abort + Threads + Wait + Sync>(
     blocks: usize,
     last: u16,
 ) -> Result<Vec<u16>, SolveFault> {
-    let mut told = Vec::new(alloc);
-    let mut scribe = Scribe { told: &mut told };
+    let mut scribe = Scribe::new(alloc);
     let watch = &mut scribe;
     let answer = solve_with(rt, alloc, graph, gate, workers, blocks, SHORT_NODES, watch);
-    are_waves_to(rt, &told, last);
+    are_waves_to(rt, &scribe.told, last);
     answer
 }
 
@@ -85,11 +84,10 @@ fn each_wave_is_told_once_in_order(rt: HostRuntime) {
 
 #[test]
 fn each_wave_of_a_sweep_is_told_once_in_order(rt: HostRuntime) {
-    let mut told = Vec::new(rt.alloc());
-    let mut scribe = Scribe { told: &mut told };
+    let mut scribe = Scribe::new(rt.alloc());
     let codes = sweep_watched(rt.alloc(), &PAIR, &mut scribe).expect(&rt, "codes");
     same_codes(&rt, &codes, &[43, 42], "codes");
-    are_waves_to(&rt, &told, 43);
+    are_waves_to(&rt, &scribe.told, 43);
 }
 
 #[test]

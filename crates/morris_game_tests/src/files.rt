@@ -3,8 +3,6 @@
 mod kept;
 mod lists;
 mod looking;
-mod making;
-mod opening;
 mod system;
 mod text;
 mod writing;

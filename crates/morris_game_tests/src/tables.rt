@@ -5,16 +5,14 @@
 //! own takes long to prove.
 
 mod builds;
+mod damaged;
 mod example;
 mod failing;
 mod files;
 mod graphs;
-mod making;
+pub(crate) mod making;
 mod needs;
-mod nine;
-mod probing;
 mod sharing;
-mod table_sets;
 mod texts;
 mod values;
 mod verifying;

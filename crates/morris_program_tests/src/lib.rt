@@ -23,6 +23,4 @@ mod line_tests;
 #[cfg(test)]
 mod making;
 #[cfg(test)]
-mod streams;
-#[cfg(test)]
 mod verify_in_tests;

@@ -50,12 +50,6 @@ XXXOOO... (too long): fault 1: text is not one character per point
 OO.OXX.X. lost in 2: 4-2 4-6 4-8 5-2 5-6 5-8 7-2 7-6 7-8
 ";
 
-/// A reader that gives these bytes one by one, and fails after so many calls.
-fn drip(left: &[u8], room: u64) -> Drip<'_> {
-    let calls = 0;
-    Drip { left, calls, room }
-}
-
 #[test]
 fn lines_are_answered(rt: HostRuntime) {
     let small = file_of(&rt, "3-3", Layout::Full);
@@ -63,7 +57,14 @@ fn lines_are_answered(rt: HostRuntime) {
     let held = &mut Held { files: &held };
     let given = GIVEN.as_bytes();
     assert_lines(&rt, "grid", held, given, ANSWERED, Ok(4));
-    assert_lines(&rt, "grid", held, drip(given, u64::MAX), ANSWERED, Ok(4));
+    assert_lines(
+        &rt,
+        "grid",
+        held,
+        Drip::new(given, u64::MAX),
+        ANSWERED,
+        Ok(4),
+    );
 }
 
 // An escape (27), the first byte of a character that is cut off, a delete (127), a backslash and a
@@ -99,6 +100,6 @@ fn a_read_that_fails_ends_the_answers(rt: HostRuntime) {
     let held = [("grid-3-3.nmmt", small.as_slice())];
     let held = &mut Held { files: &held };
     let first = "XXXOOO... draw: 0-6 1-7 2-8\n";
-    let reader = drip(GIVEN.as_bytes(), 11);
+    let reader = Drip::new(GIVEN.as_bytes(), 11);
     assert_lines(&rt, "grid", held, reader, first, Err(Fault::Read));
 }

@@ -1,10 +1,11 @@
 // `verify_in`, which verifies on the thread of the caller: what it prints, what it refuses, and in
 // which order.
 use crate::checks::{assert_answered, holds};
-use crate::making::{changed, file_of, joined, sealed};
-use crate::streams::{Full, dripping};
+use crate::making::{changed, file_of, sealed};
 use morris_board::streams::{FromRead, IntoWrite};
 use morris_commands::verify_in::verify_in;
+use morris_engine_tests::counting::Counting;
+use morris_engine_tests::drip::Drip;
 use morris_jobs::fault::Fault;
 use morris_pairs::layout::Layout;
 use std::process::Abort;
@@ -57,42 +58,17 @@ fn verify_in_names_the_first_entry_that_differs(rt: HostRuntime) {
     assert_verifies(&rt, draws.as_slice(), Err(Fault::Differs(20)), "");
 }
 
-/// A file whose byte at a place is wrong is refused for this fault.
-fn assert_refused(rt: &(impl Abort + AllocGlobal), file: &[u8], place: usize, fault: Fault) {
-    let right = file.get(place).copied().unwrap_or_default();
-    let wrong = changed(rt, file, place, 255 - right);
-    assert_verifies(rt, wrong.as_slice(), Err(fault), "");
-}
-
-#[test]
-fn verify_in_refuses_files_that_are_damaged(rt: HostRuntime) {
-    let right = file_of(&rt, "3-3", Layout::Full);
-    let right = right.as_slice();
-    assert_verifies(&rt, &right[..right.len().min(3407)], Err(Fault::Short), "");
-    assert_verifies(&rt, &right[..right.len().min(15)], Err(Fault::Short), "");
-    assert_verifies(&rt, b"", Err(Fault::Short), "");
-    let more = joined(&rt, &[right, b"\0"]);
-    assert_verifies(&rt, more.as_slice(), Err(Fault::Trailing), "");
-    assert_refused(&rt, right, 0, Fault::Magic);
-    assert_refused(&rt, right, 4, Fault::Version);
-    assert_refused(&rt, right, 5, Fault::BoardId);
-    assert_refused(&rt, right, 6, Fault::Counts);
-    assert_refused(&rt, right, 15, Fault::Count);
-    assert_refused(&rt, right, 16, Fault::Digest);
-    assert_refused(&rt, right, 3407, Fault::Digest);
-}
-
 /// A file on a board is refused for this fault where reads fail after so many calls, and nothing is
 /// printed.
 fn assert_unread(
     rt: &(impl Abort + AllocGlobal),
     board: &str,
     file: &[u8],
-    room: u64,
+    before: u64,
     fault: Fault,
 ) {
     let mut output = IntoWrite::new(Vec::new(rt.alloc()));
-    let mut input = dripping(file, room);
+    let mut input = FromRead::new(Drip::new(file, before));
     let answer = verify_in(rt.alloc(), board, &mut input, &mut output);
     assert_answered(rt, answer, output.into_inner().as_slice(), Err(fault), "");
 }
@@ -100,11 +76,12 @@ fn assert_unread(
 #[test]
 fn streams_that_fail_end_verify_in(rt: HostRuntime) {
     let right = file_of(&rt, "3-3", Layout::Full);
-    for room in [0, 1, 16, 3407, 3408] {
-        assert_unread(&rt, "grid", right.as_slice(), room, Fault::Read);
+    for before in [0, 1, 16, 3407, 3408] {
+        assert_unread(&rt, "grid", right.as_slice(), before, Fault::Read);
     }
     assert_unread(&rt, "round", right.as_slice(), 0, Fault::Board);
     let mut input = FromRead::new(right.as_slice());
-    let answer = verify_in(rt.alloc(), "grid", &mut input, &mut Full { failures: 0 });
+    let mut full = Counting::new(rt.alloc(), 1, 0);
+    let answer = verify_in(rt.alloc(), "grid", &mut input, &mut full);
     holds(&rt, answer == Err(Fault::Write(0)), "a full output");
 }

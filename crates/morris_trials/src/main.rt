@@ -3,11 +3,11 @@
 //!
 //! The program makes a call by itself: it prints what the call answers, how it leaves what it works
 //! on, and what it answers when it is made again. The words of the command line are names of calls.
-//! `ci/refused_memory` runs this program once for each request for memory of each call, and has
+//! `tests/cli/memory.py` runs this program once for each request for memory of each call, and has
 //! that request refused.
 //!
 //! A word that names no call has positions, which are probed over the table files on standard
-//! input: `ci/lookups` compares what `lookup` answers with that.
+//! input: `tests/lookups` compares what `lookup` answers with that.
 //!
 //! Its functions have no clauses: what they print is compared by the gate, with the stored output
 //! and after each refusal, and no contract can say what a terminal takes.

@@ -4,6 +4,7 @@ ghost use Rattle.std.specs.Prelude.{◌≡◌};
 use morris_board::grid::Grid;
 use morris_board::position::Position;
 use morris_board::streams::{FromRead, IntoWrite};
+use morris_engine_tests::digests::BY_CLASSES;
 use morris_engine_tests::told::{mark, or_refused, tell};
 use morris_index::class_pair::ClassPair;
 use morris_index::classes::Classes;
@@ -193,12 +194,6 @@ pub(crate) fn reads_a_table(rt: &impl Print, alloc: Global) -> Option<()> {
 /// What the file of 3-3 by classes begins with: version 2, board 1, and 320 entries.
 const HEADER_OF_CLASSES: [u8; 16] = *b"NMMT\x02\x01\x03\x03\x00\x00\x00\x00\x00\x00\x01\x40";
 
-/// The SHA-256 at its end, as another program reckons it.
-const DIGEST_OF_CLASSES: [u8; 32] = [
-    0x89, 0xf4, 0x4e, 0x18, 0xa9, 0x46, 0x21, 0x8d, 0x21, 0x23, 0xe2, 0x3d, 0x32, 0xb2, 0x58, 0xf0,
-    0x99, 0xe1, 0x8c, 0x48, 0xb8, 0x25, 0x12, 0xe4, 0x9a, 0xba, 0xb1, 0x0f, 0xf5, 0xa7, 0x2d, 0x8a,
-];
-
 /// The code of a value in a file.
 fn code_of(value: Value) -> u16 {
     match value {
@@ -229,7 +224,7 @@ fn file_by_classes(alloc: Global) -> Option<Vec<u8>> {
     let entries = ClassPair::make(alloc, pair).ok()?;
     let mut file = Vec::from_slice(alloc, HEADER_OF_CLASSES.as_slice()).ok()?;
     add_codes(&mut file, shelf.get(pair)?, &entries).ok()?;
-    file.extend_from_slice(DIGEST_OF_CLASSES.as_slice()).ok()?;
+    file.extend_from_slice(BY_CLASSES.as_slice()).ok()?;
     Some(file)
 }
 

@@ -1,6 +1,6 @@
 //! The boards and their symmetries.
 use crate::checks::{same, same_text};
-use crate::rules::texts::{add, add_points, assert_points};
+use crate::rules::texts::{add, add_points};
 use morris_board::board::Geometry;
 use morris_board::grid::Grid;
 use morris_board::nine::Nine;
@@ -56,16 +56,6 @@ fn nine_is_three_rings(rt: HostRuntime) {
     assert_neighbours::<Nine>(&rt, rt.alloc(), neighbours);
 }
 
-#[test]
-fn two_mills_go_through_a_point(rt: HostRuntime) {
-    let (row, column) = Grid::mills_through(3);
-    assert_points(&rt, rt.alloc(), row, "3 4 5 ");
-    assert_points(&rt, rt.alloc(), column, "0 3 6 ");
-    let (side, line) = Nine::mills_through(9);
-    assert_points(&rt, rt.alloc(), side, "8 9 10 ");
-    assert_points(&rt, rt.alloc(), line, "1 9 17 ");
-}
-
 /// The images of the points in order, each with a space after it, are these.
 fn assert_images<B: Geometry>(rt: &impl Abort, alloc: Global, symmetry: u8, wanted: &str) {
     assert!(rt; symmetry < B::SYMMETRIES);
@@ -83,8 +73,6 @@ fn symmetries_of_grid_turn_and_mirror(rt: HostRuntime) {
     assert_images::<Grid>(&rt, rt.alloc(), 3, "6 3 0 7 4 1 8 5 2 ");
     assert_images::<Grid>(&rt, rt.alloc(), 4, "0 3 6 1 4 7 2 5 8 ");
     assert_images::<Grid>(&rt, rt.alloc(), 5, "2 1 0 5 4 3 8 7 6 ");
-    same(&rt, u64::from(Grid::inverse(1)), 3, "inverse of 1");
-    same(&rt, u64::from(Grid::inverse(5)), 5, "inverse of 5");
 }
 
 // The same on each ring.
@@ -107,6 +95,4 @@ fn symmetries_of_nine_exchange_the_rings(rt: HostRuntime) {
     assert_images::<Nine>(&rt, rt.alloc(), 8, exchanged);
     let all = "18 17 16 23 22 21 20 19 10 9 8 15 14 13 12 11 2 1 0 7 6 5 4 3 ";
     assert_images::<Nine>(&rt, rt.alloc(), 13, all);
-    same(&rt, u64::from(Nine::inverse(11)), 9, "inverse of 11");
-    same(&rt, u64::from(Nine::inverse(13)), 13, "inverse of 13");
 }

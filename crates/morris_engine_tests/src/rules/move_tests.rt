@@ -1,11 +1,10 @@
-//! Moves: which are legal, what they lead to, and which lead back.
+//! Moves: which are legal, and which lead back.
 use crate::checks::{holds, same, same_text};
-use crate::rules::texts::{add, assert_text, position};
+use crate::rules::texts::{add, position};
 use morris_board::board::Geometry;
 use morris_board::grid::Grid;
 use morris_board::nine::Nine;
-use morris_moves::rules::{backs, is_legal, moves, play};
-use morris_moves::step::Move;
+use morris_moves::rules::{backs, moves};
 use std::alloc::Global;
 use std::process::Abort;
 
@@ -78,27 +77,6 @@ fn three_stones_jump_on_nine(rt: HostRuntime) {
     assert_among(&rt, rt.alloc(), "XX..........X...OOO.....", 56, wanted);
 }
 
-/// The move is legal, and leads to the position with this text.
-fn assert_played(
-    rt: &impl Abort,
-    alloc: Global,
-    text: &str,
-    (from, to, taken): (u8, u8, Option<u8>),
-    wanted: &str,
-) {
-    let position = position::<Grid>(rt, text);
-    let m = Move { from, to, taken };
-    assert!(rt; is_legal(&position, m));
-    assert_text(rt, alloc, &play(&position, m), wanted);
-}
-
-#[test]
-fn a_move_is_played(rt: HostRuntime) {
-    assert_played(&rt, rt.alloc(), "XXX.OO.O.", (2, 3, None), "OO.OXX.X.");
-    assert_played(&rt, rt.alloc(), "XX..OO.OX", (8, 2, Some(4)), "OOO..X.X.");
-    assert_played(&rt, rt.alloc(), "XXXOXO..O", (4, 7, None), "OOOX.X.OX");
-}
-
 /// The quiet moves that lead to the position that a text shows are these.
 fn assert_taken_back(rt: &impl Abort, alloc: Global, text: &str, wanted: &str) {
     let position = position::<Grid>(rt, text);
@@ -119,10 +97,4 @@ fn quiet_moves_are_taken_back_in_order(rt: HostRuntime) {
     assert_taken_back(&rt, rt.alloc(), "OOOXXX...", "");
     assert_taken_back(&rt, rt.alloc(), "OOOXX.X.O", "5-8 7-8 ");
     assert_taken_back(&rt, rt.alloc(), "OO.OX..X.", "");
-}
-
-#[test]
-fn quiet_moves_on_nine_are_counted(rt: HostRuntime) {
-    let position = position::<Nine>(&rt, "OO.X.X.X..........O.....");
-    same(&rt, backs(&position).count() as u64, 54, "quiet moves");
 }

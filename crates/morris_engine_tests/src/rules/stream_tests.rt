@@ -1,76 +1,15 @@
-//! Streams over memory that give or take a byte a call, and std's readers and writers that fail.
+//! std's readers and writers that fail, and what a printer holds back.
 ghost use Rattle.std.specs.Prelude.{◌≡◌, ◌<◌, ◌^◌, IfOk};
 
 use crate::checks::{holds, same, same_bytes};
-use crate::rules::counting::Counting;
+use crate::counting::Counting;
+use crate::drip::Drip;
 use morris_board::streams::printer::Printer;
 use morris_board::streams::{Failed, FromRead, IntoWrite, Sink, Source, put};
 use std::alloc::Global;
 use std::io;
 use std::io::{ErrorKind, Read, Write};
 use std::process::Abort;
-
-#[test]
-fn put_goes_on_after_each_part(rt: HostRuntime) {
-    let mut sink = Counting::new(rt.alloc(), 1, 100);
-    holds(&rt, put(&mut sink, 0, b"morris").is_ok(), "a text is put");
-    holds(&rt, put(&mut sink, 6, b" ").is_ok(), "a byte is put");
-    same_bytes(&rt, sink.taken.as_slice(), b"morris ");
-    same(&rt, sink.calls, 7, "writes");
-}
-
-/// A sink with room for so many bytes gets these, and isn't called after the failure.
-fn assert_stops(rt: &impl Abort, alloc: Global, room: u8, taken: &str) {
-    let mut sink = Counting::new(alloc, 1, room as usize);
-    let room = u64::from(room);
-    let failed = put(&mut sink, 100, b"morris") == Err(100 + room);
-    holds(rt, failed, taken);
-    same_bytes(rt, sink.taken.as_slice(), taken.as_bytes());
-    same(rt, sink.calls, 1 + room, "writes");
-}
-
-#[test]
-fn put_stops_at_the_first_failure(rt: HostRuntime) {
-    assert_stops(&rt, rt.alloc(), 0, "");
-    assert_stops(&rt, rt.alloc(), 1, "m");
-    assert_stops(&rt, rt.alloc(), 5, "morri");
-}
-
-/// The number is written as this text.
-fn assert_number(rt: &impl Abort, alloc: Global, number: u64, text: &str) {
-    let mut sink = Counting::new(alloc, 100, 100);
-    let mut out = Printer::new(&mut sink);
-    out.put_number(number);
-    holds(rt, out.finish().is_ok(), text);
-    same_bytes(rt, sink.taken.as_slice(), text.as_bytes());
-}
-
-#[test]
-fn numbers_are_written_in_decimal(rt: HostRuntime) {
-    assert_number(&rt, rt.alloc(), 0, "0");
-    assert_number(&rt, rt.alloc(), 10, "10");
-    assert_number(&rt, rt.alloc(), 2_691_920, "2691920");
-    assert_number(&rt, rt.alloc(), u64::MAX, "18446744073709551615");
-}
-
-/// Gives a byte a call, and fails at one of its calls.
-#[derive(Drop)]
-struct Drip<'a> {
-    left: &'a [u8],
-    calls: u64,
-    fails_at: u64,
-}
-
-impl Read for Drip<'_> {
-    fn read(&mut self, buffer: &mut [u8]) -> io::Result<usize> {
-        self.calls = self.calls.saturating_add(1);
-        if self.calls == self.fails_at {
-            return Err(io::Error::from(ErrorKind::Other));
-        }
-        let count = buffer.len().min(1);
-        self.left.read(&mut buffer[..count])
-    }
-}
 
 /// Three reads of a byte. Whether each succeeded, in order.
 fn read_thrice<S: Source>(source: &mut S) -> (bool, bool, bool)
@@ -85,46 +24,11 @@ fn read_thrice<S: Source>(source: &mut S) -> (bool, bool, bool)
 // The failure is told at its own call, and the next call goes on with the next byte.
 #[test]
 fn a_source_tells_which_call_failed(rt: HostRuntime) {
-    let mut source = FromRead::new(Drip {
-        left: b"men",
-        calls: 0,
-        fails_at: 2,
-    });
+    let mut source = FromRead::new(Drip::new(b"men", 1));
     let succeeded = read_thrice(&mut source) == (true, false, true);
     holds(&rt, succeeded, "the second call failed");
     same(&rt, source.failures(), 1, "failures");
     same_bytes(&rt, source.into_inner().left, b"n");
-}
-
-#[test]
-fn a_source_reads_memory_to_its_end(rt: HostRuntime) {
-    let mut source = FromRead::new(b"men".as_slice());
-    let mut buffer = [0; 5];
-    let first = source.read(&mut buffer) == Ok(3);
-    holds(&rt, first, "three bytes");
-    same_bytes(&rt, &buffer, b"men\0\0");
-    let second = source.read(&mut buffer) == Ok(0);
-    holds(&rt, second, "the end");
-    same(&rt, source.into_inner().len() as u64, 0, "bytes left");
-}
-
-#[test]
-fn a_sink_writes_to_memory(rt: HostRuntime) {
-    let mut sink = IntoWrite::new(Vec::new(rt.alloc()));
-    let none = sink.write(b"") == Ok(0);
-    holds(&rt, none, "no byte");
-    let all = sink.write(b"moves") == Ok(5);
-    holds(&rt, all, "all bytes");
-    same_bytes(&rt, sink.into_inner().as_slice(), b"moves");
-}
-
-#[test]
-fn a_sink_takes_a_long_text_at_once(rt: HostRuntime) {
-    let long = "X".repeat(rt.alloc(), 100_000).expect(&rt, "memory");
-    let mut sink = IntoWrite::new(Vec::new(rt.alloc()));
-    let all = sink.write(long.as_bytes()) == Ok(100_000);
-    holds(&rt, all, "all bytes");
-    same_bytes(&rt, sink.into_inner().as_slice(), long.as_bytes());
 }
 
 /// Answers each call with the same fault, or with 0 bytes.
@@ -194,4 +98,30 @@ fn the_adapters_count_faults(rt: HostRuntime) {
     assert_read(&rt, Some(ErrorKind::Other), Err(Failed));
     assert_read(&rt, Some(ErrorKind::Interrupted), Err(Failed));
     assert_read(&rt, None, Ok(0));
+}
+
+/// Behind a piece of 5,000 bytes another is put in. So many bytes have gone out then, in so many
+/// writes.
+fn assert_gone(rt: &impl Abort, alloc: Global, second: &[u8], sent: u64, writes: u64) {
+    let mut sink = Counting::new(alloc, 100_000, 100_000);
+    let mut out = Printer::new(&mut sink);
+    out.put_bytes(&[b'X'; 5_000]);
+    out.put_bytes(second);
+    holds(rt, !out.has_failed(), "both are put");
+    same(
+        rt,
+        sink.taken.len() as u64,
+        sent,
+        "bytes that have gone out",
+    );
+    same(rt, sink.calls, writes, "writes");
+}
+
+// A piece that doesn't fit any more sends on what is held; one that is longer than the buffer goes
+// out behind it at once.
+#[test]
+fn what_does_not_fit_goes_out(rt: HostRuntime) {
+    assert_gone(&rt, rt.alloc(), &[b'O'; 3_000], 0, 0);
+    assert_gone(&rt, rt.alloc(), &[b'O'; 5_000], 5_000, 1);
+    assert_gone(&rt, rt.alloc(), &[b'O'; 9_000], 14_000, 2);
 }

@@ -2,7 +2,6 @@
 ghost use Rattle.std.specs.Prelude.{◌≡◌, true};
 ghost use Rattle.morris_index.specs.Pairs.{is_of};
 
-use crate::checks::{same_bytes, same_text};
 use morris_board::board::Geometry;
 use morris_board::points::Points;
 use morris_board::position::Position;
@@ -21,31 +20,6 @@ pub(crate) fn add_points(rt: &impl Abort, list: &mut String, set: Points) {
     for point in set.iter() {
         add(rt, list, &point);
     }
-}
-
-/// The set has just these points, listed as [`add_points`] does.
-pub(crate) fn assert_points(rt: &impl Abort, alloc: Global, set: Points, wanted: &str) {
-    let mut list = String::new(alloc);
-    add_points(rt, &mut list, set);
-    same_text(rt, list.as_str(), wanted);
-}
-
-/// An item is shown by this text.
-pub(crate) fn assert_shown(rt: &impl Abort, alloc: Global, item: &impl Display, wanted: &str) {
-    let text = format!(in alloc; "{item}").expect(rt, "memory");
-    same_text(rt, text.as_str(), wanted);
-}
-
-/// The position has just this text.
-pub(crate) fn assert_text<B: Geometry>(
-    rt: &impl Abort,
-    alloc: Global,
-    position: &Position<B>,
-    wanted: &str,
-) {
-    let mut text = vec![in alloc; b'?'; B::POINTS as usize].expect(rt, "memory");
-    position.write_to(&mut text);
-    same_bytes(rt, text.as_slice(), wanted.as_bytes());
 }
 
 /// The position that a text shows.

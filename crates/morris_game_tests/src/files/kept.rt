@@ -1,27 +1,20 @@
 // The file of a table in a folder in memory.
 use crate::memory::MemoryFolder;
+use crate::tables::making::three_three;
 use morris_board::grid::Grid;
+use morris_engine_tests::digests::BY_POSITIONS;
 use morris_files::digests::write_list;
 use morris_files::folder::Folder;
 use morris_files::kept::{KeptFault, read_table_file};
 use morris_files::old_list::kept_lines;
 use morris_files::table_file::{Written, write_table_file};
 use morris_index::pair::Pair;
-use morris_pairs::exact::Exact;
 use morris_pairs::file_faults::ReadFault;
-use morris_pairs::shelf::Shelf;
-use morris_pairs::sweeping::sweep_pair;
 use morris_workers::Unwatched;
 use std::alloc::Global;
 use std::process::Abort;
 
-/// The SHA-256 at the end of the file of 3-3, as another program reckons it.
-const DIGEST: [u8; 32] = [
-    0xd6, 0x6a, 0x9e, 0xcf, 0x00, 0x1c, 0xc6, 0x95, 0xc7, 0x90, 0x4b, 0xf2, 0xb8, 0xbd, 0xbc, 0xc3,
-    0xac, 0x27, 0x50, 0x65, 0xc3, 0xb5, 0x79, 0xb9, 0x5f, 0x4f, 0x84, 0x5e, 0x2a, 0x95, 0xd1, 0x8d,
-];
-
-/// The SHA-256 of the whole file, by the same program.
+/// The SHA-256 of the whole file of 3-3, as another program reckons it.
 const WHOLE: [u8; 32] = [
     0xf8, 0xc4, 0x8a, 0x20, 0xf9, 0x6d, 0x42, 0x47, 0x48, 0xed, 0x4c, 0x63, 0x1d, 0x94, 0xd9, 0x8d,
     0x80, 0xb8, 0xb0, 0x0b, 0xe2, 0xf1, 0x7e, 0xb8, 0x13, 0x2b, 0x23, 0x3d, 0x2b, 0x18, 0x40, 0x76,
@@ -40,17 +33,11 @@ const TWO: &[u8] = b"\
 const OTHER: &[u8] =
     b"0000000000000000000000000000000000000000000000000000000000000043  grid-4-3.nmmt\n";
 
-/// The table of 3-3.
-fn three_three(alloc: Global) -> Option<Exact<Grid>> {
-    let shelf = Shelf::new(alloc).ok()?;
-    sweep_pair(alloc, &shelf, Pair::new(3, 3).ok()?).ok()
-}
-
 /// Whether the folder has the file of 3-3 under its name, and no other.
 fn has_file(folder: &MemoryFolder) -> bool {
     match folder.get("grid-3-3.nmmt") {
         Some(file) => {
-            folder.count() == 1 && file.len() == 3408 && file.ends_with(DIGEST.as_slice())
+            folder.count() == 1 && file.len() == 3408 && file.ends_with(BY_POSITIONS.as_slice())
         }
         None => false,
     }
@@ -58,7 +45,7 @@ fn has_file(folder: &MemoryFolder) -> bool {
 
 #[test]
 fn the_file_of_a_table_has_the_name_of_its_pair(rt: HostRuntime) {
-    let table = three_three(rt.alloc()).expect(&rt, "the table of 3-3");
+    let table = three_three(&rt, rt.alloc());
     let mut folder = MemoryFolder::new(rt.alloc(), 0, 0);
     let written = write_table_file(rt.alloc(), &mut folder, "grid", &table, &mut Unwatched).ok();
     let written = written.expect(&rt, "the file of 3-3");
@@ -67,22 +54,16 @@ fn the_file_of_a_table_has_the_name_of_its_pair(rt: HostRuntime) {
 }
 
 /// The folder with the file of 3-3, and what is told of the file.
-fn kept(alloc: Global, calls: u64) -> Option<(MemoryFolder, Written<Grid>)> {
+fn kept(rt: &impl Abort, alloc: Global, calls: u64) -> (MemoryFolder, Written<Grid>) {
+    let table = three_three(rt, alloc);
     let mut folder = MemoryFolder::new(alloc, calls, 0);
-    let written = write_table_file(
-        alloc,
-        &mut folder,
-        "grid",
-        &three_three(alloc)?,
-        &mut Unwatched,
-    )
-    .ok()?;
-    Some((folder, written))
+    let written = write_table_file(alloc, &mut folder, "grid", &table, &mut Unwatched).ok();
+    (folder, written.expect(rt, "the file of 3-3"))
 }
 
 #[test]
 fn the_digests_stand_in_a_file_of_their_own(rt: HostRuntime) {
-    let (mut folder, written) = kept(rt.alloc(), 0).expect(&rt, "the file of 3-3");
+    let (mut folder, written) = kept(&rt, rt.alloc(), 0);
     assert!(rt; folder.failures() == 0);
     let answer = write_list(rt.alloc(), &mut folder, "grid", b"", &[written]);
     assert!(rt; answer == Ok(()) && folder.get("grid.sha256") == Some(LINE));
@@ -100,7 +81,7 @@ fn with_line(alloc: Global, lines: &[u8]) -> Option<Vec<u8>> {
 #[test]
 fn the_digests_of_other_files_stay(rt: HostRuntime) {
     let alloc = rt.alloc();
-    let (mut folder, written) = kept(alloc, 0).expect(&rt, "the file of 3-3");
+    let (mut folder, written) = kept(&rt, alloc, 0);
     assert!(rt; folder.put("grid.sha256", TWO).is_ok() && folder.failures() == 0);
     let kept = kept_lines(alloc, &mut folder, "grid", written.pair);
     let kept = kept.ok().expect(&rt, "the lines that are kept");
@@ -135,7 +116,7 @@ fn reads(
 #[test]
 fn a_table_is_read_from_the_file_of_its_pair(rt: HostRuntime) {
     let alloc = rt.alloc();
-    let (mut folder, _) = kept(alloc, 0b100000).expect(&rt, "the file of 3-3");
+    let (mut folder, _) = kept(&rt, alloc, 0b100000);
     let folder = &mut folder;
     assert!(rt; reads(alloc, folder, (3, 3), Err(KeptFault::Unopened)));
     assert!(rt; reads(alloc, folder, (3, 3), Ok(Some(1680))));

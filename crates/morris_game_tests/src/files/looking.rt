@@ -1,8 +1,10 @@
 // What the files of 3-3 on `grid` tell, in either version. The values follow from the rules.
-use crate::files::making::{tables_of, three_three};
+use crate::tables::making::{built, empty, file_of, pair};
 use morris_board::grid::Grid;
 use morris_board::position::Position;
+use morris_index::pair::Pair;
 use morris_lookup::best::{best, next};
+use morris_lookup::opened::Opened;
 use morris_lookup::outcomes::outcomes;
 use morris_lookup::storage::Storage;
 use morris_lookup::tables::Tables;
@@ -14,6 +16,8 @@ use std::fs;
 use std::fs::File;
 use std::io::Write;
 use std::process::Abort;
+use std::sync::Wait;
+use std::thread::Threads;
 
 /// A move that takes this stone.
 fn taking(from: u8, to: u8, taken: u8) -> Move {
@@ -99,23 +103,37 @@ fn is_right<S: Storage>(alloc: Global, tables: &Tables<Grid, S>) -> bool {
         && plies(alloc, tables, b"OO.OXX.X.") == Some(2)
 }
 
+/// The file of 3-3 in a layout.
+fn three_three<R: Abort + Threads + Wait + Sync>(rt: &R, alloc: Global, layout: Layout) -> Vec<u8> {
+    let table = built(rt, alloc, &empty(rt, alloc), pair(rt, 3, 3), layout);
+    file_of(rt, alloc, &table)
+}
+
+/// The tables of one file of 3-3.
+fn tables_of<S: Storage + Drop>(alloc: Global, file: S) -> Option<Tables<Grid, S>> {
+    let pair = Pair::new(3, 3).ok()?;
+    let mut tables = Tables::new(alloc).ok()?;
+    tables.put(Opened::open(alloc, file, pair).ok()?);
+    Some(tables)
+}
+
 #[test]
 fn a_file_by_positions_tells(rt: HostRuntime) {
-    let bytes = three_three(&rt, rt.alloc(), Layout::Full).expect(&rt, "a file");
+    let bytes = three_three(&rt, rt.alloc(), Layout::Full);
     let tables = tables_of(rt.alloc(), bytes.as_slice()).expect(&rt, "tables");
     assert!(rt; is_right(rt.alloc(), &tables));
 }
 
 #[test]
 fn a_file_by_classes_tells(rt: HostRuntime) {
-    let bytes = three_three(&rt, rt.alloc(), Layout::Classes).expect(&rt, "a file");
+    let bytes = three_three(&rt, rt.alloc(), Layout::Classes);
     let tables = tables_of(rt.alloc(), bytes.as_slice()).expect(&rt, "tables");
     assert!(rt; is_right(rt.alloc(), &tables));
 }
 
 #[test]
 fn a_file_on_a_disk_tells(rt: HostRuntime) {
-    let bytes = three_three(&rt, rt.alloc(), Layout::Classes).expect(&rt, "a file");
+    let bytes = three_three(&rt, rt.alloc(), Layout::Classes);
     let path = "looked_up_by_a_test";
     let mut file = File::create(&rt, path).expect(&rt, "a place to write");
     file.write_all(bytes.as_slice()).expect(&rt, "room");

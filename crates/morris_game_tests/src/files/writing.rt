@@ -1,7 +1,6 @@
 // Files in memory, written while calls fail.
 use crate::files::text::Two;
 use crate::memory::MemoryFolder;
-use morris_board::streams::Failed;
 use morris_files::folder::Folder;
 use morris_files::whole::{NotWhole, Step, write_whole};
 use morris_workers::Unwatched;
@@ -86,33 +85,4 @@ fn a_part_that_was_left_is_replaced(rt: HostRuntime) {
     assert!(rt; answer.is_ok());
     assert!(rt; folder.get("kept") == Some(b"newer".as_slice()));
     assert!(rt; folder.count() == 1);
-}
-
-#[test]
-fn a_folder_in_memory_is_made_unless_it_is_told_to_fail(rt: HostRuntime) {
-    let mut folder = MemoryFolder::new(rt.alloc(), 0b10101, 0);
-    assert!(rt; folder.make() == Err(Failed));
-    assert!(rt; folder.make() == Ok(()));
-    assert!(rt; folder.find() == Err(Failed));
-    assert!(rt; folder.find() == Ok(()));
-    assert!(rt; folder.settle() == Err(Failed));
-    assert!(rt; folder.settle() == Ok(()));
-    assert!(rt; folder.failures() == 3);
-    assert!(rt; folder.count() == 0);
-}
-
-#[test]
-fn a_folder_in_memory_is_locked_unless_another_has_the_lock(rt: HostRuntime) {
-    let mut folder = MemoryFolder::new(rt.alloc(), 0b1, 0);
-    assert!(rt; folder.put("lock", b"ed").is_ok());
-    assert!(rt; folder.lock("lock") == Err(Failed));
-    folder.set_taken(true);
-    assert!(rt; folder.lock("lock") == Ok(false));
-    folder.set_taken(false);
-    assert!(rt; folder.lock("lock") == Ok(true));
-    folder.set_taken(true);
-    assert!(rt; folder.lock("lock") == Ok(true));
-    assert!(rt; folder.get("lock") == Some(b"ed".as_slice()));
-    assert!(rt; folder.lock("other") == Ok(true));
-    assert!(rt; folder.get("other") == Some(b"".as_slice()));
 }

@@ -5,6 +5,8 @@ use crate::tables::making::{
     agree, built, empty, file_of, pair, shelf_with, swept, three_by_classes, three_three,
 };
 use morris_board::grid::Grid;
+use morris_engine_tests::digests::BY_POSITIONS;
+use morris_engine_tests::gates::{HoledGate, MeetingGate, ShutGate};
 use morris_index::pair::Pair;
 use morris_pairs::build_fault::BuildFault;
 use morris_pairs::exact::Exact;
@@ -18,17 +20,15 @@ use std::sync::Wait;
 use std::sync::atomic::{AtomicBool, Ordering};
 use std::thread::Threads;
 
-/// The SHA-256 at the end of the file of 3-3, as another program reckons it.
-const DIGEST: [u8; 32] = [
-    0xd6, 0x6a, 0x9e, 0xcf, 0x00, 0x1c, 0xc6, 0x95, 0xc7, 0x90, 0x4b, 0xf2, 0xb8, 0xbd, 0xbc, 0xc3,
-    0xac, 0x27, 0x50, 0x65, 0xc3, 0xb5, 0x79, 0xb9, 0x5f, 0x4f, 0x84, 0x5e, 0x2a, 0x95, 0xd1, 0x8d,
-];
-
 /// A table's file is that of 3-3.
 fn assert_right(rt: &impl Abort, alloc: Global, table: &Exact<Grid>) {
     let file = file_of(rt, alloc, table);
     same(rt, file.len() as u64, 3_408, "bytes");
-    holds(rt, file.as_slice().ends_with(DIGEST.as_slice()), "digest");
+    holds(
+        rt,
+        file.as_slice().ends_with(BY_POSITIONS.as_slice()),
+        "digest",
+    );
 }
 
 /// Whether a build of 3-3 answers a table, which has to be right, and otherwise that block 0 isn't
@@ -127,7 +127,7 @@ fn assert_refused<R: Abort + Threads + Wait + Sync>(
     fault: BuildFault<Grid>,
 ) {
     let (empty, pair) = (empty(rt, alloc), pair(rt, greater, 3));
-    let answer = build_as(rt, alloc, &empty, pair, layout, &Shut, workers, blocks);
+    let answer = build_as(rt, alloc, &empty, pair, layout, &ShutGate, workers, blocks);
     holds(rt, answer.err() == Some(fault), "fault");
 }
 
@@ -152,36 +152,12 @@ fn builds_are_refused_in_order(rt: HostRuntime) {
     assert_refused_in_order(&rt, rt.alloc(), Layout::Classes);
 }
 
-/// Sends every worker away.
-pub(crate) struct Shut;
-
-impl Gate for Shut {
-    fn pass(&self, _worker: usize, _number: u64) -> Turn {
-        Turn::Leave
-    }
-}
-
-/// Sends a worker away once it draws this number.
-struct Hole {
-    number: u64,
-}
-
-impl Gate for Hole {
-    fn pass(&self, _worker: usize, number: u64) -> Turn {
-        if number == self.number {
-            Turn::Leave
-        } else {
-            Turn::Go
-        }
-    }
-}
-
 // No block is complete then, and the first one is told.
 #[test]
 fn a_number_that_is_left_out_leaves_every_block_incomplete(rt: HostRuntime) {
-    let is_built_without_3 = is_built(&rt, rt.alloc(), &Hole { number: 3 }, 2, 5);
+    let is_built_without_3 = is_built(&rt, rt.alloc(), &HoledGate { number: 3 }, 2, 5);
     holds(&rt, !is_built_without_3, "3 is left out");
-    let is_built_without_5 = is_built(&rt, rt.alloc(), &Hole { number: 5 }, 2, 5);
+    let is_built_without_5 = is_built(&rt, rt.alloc(), &HoledGate { number: 5 }, 2, 5);
     holds(&rt, is_built_without_5, "no number is left out");
 }
 
@@ -244,38 +220,9 @@ fn workers_are_sent_away_at_random(rt: HostRuntime) {
     assert!(rt; built > 25 && built < 175, "{built} of 200 were built");
 }
 
-/// Lets two workers go on once they have met: each raises its flag when it comes for the first
-/// time, and looks for the other's.
-#[derive(Drop)]
-struct Meeting {
-    first: AtomicBool,
-    second: AtomicBool,
-}
-
-/// How often a worker looks for the other's flag.
-const LOOKS: u32 = 1_000_000_000;
-
-impl Gate for Meeting {
-    fn pass(&self, worker: usize, _number: u64) -> Turn {
-        let (mine, others) = match worker {
-            0 => (&self.first, &self.second),
-            _ => (&self.second, &self.first),
-        };
-        if mine.swap(true, Ordering::SeqCst) {
-            return Turn::Go;
-        }
-        for _ in 0..LOOKS {
-            if others.load(Ordering::SeqCst) {
-                return Turn::Go;
-            }
-        }
-        Turn::Leave
-    }
-}
-
 #[test]
 fn two_workers_are_at_work_at_once(rt: HostRuntime) {
-    let (first, second) = (AtomicBool::new(false), AtomicBool::new(false));
-    let gate = Meeting { first, second };
+    let gate = MeetingGate::new();
     holds(&rt, is_built(&rt, rt.alloc(), &gate, 2, 5), "a table");
+    holds(&rt, gate.have_met(), "met");
 }

@@ -77,11 +77,9 @@ pub(crate) fn shelf_with<B: Board>(rt: &impl Abort, alloc: Global, table: Exact<
     shelf
 }
 
-/// A shelf with the swept table of three stones each.
-pub(crate) fn shelf_of_three<B: Board>(rt: &impl Abort, alloc: Global) -> Shelf<B> {
-    let shelf = empty(rt, alloc);
-    let table = swept(rt, alloc, &shelf, pair(rt, 3, 3));
-    shelf_with(rt, alloc, table)
+/// A shelf with the swept table of 3-3.
+pub(crate) fn shelf_of_three(rt: &impl Abort, alloc: Global) -> Shelf<Grid> {
+    shelf_with(rt, alloc, three_three(rt, alloc))
 }
 
 /// The bytes that writing a table gives.

@@ -1,16 +1,14 @@
 // Tables that several workers verify.
-use crate::checks::{holds, same};
-use crate::tables::making::{empty, pair};
+use crate::checks::holds;
+use crate::tables::making::pair;
 use morris_board::nine::Nine;
 use morris_pairs::layout::Layout;
 use morris_pairs::raw::Raw;
 use morris_pairs::table_set::TableSet;
 use morris_pairs::verify::VerifyFault;
-use morris_table::building::build_as;
-use morris_workers::{OpenGate, Unwatched};
+use morris_workers::Unwatched;
 use std::alloc::Global;
 use std::process::Abort;
-use std::sync::Wait;
 use std::thread::Threads;
 
 /// So many workers tell this entry as the first one that doesn't agree, where a list states that
@@ -28,22 +26,6 @@ fn assert_told<R: Abort + Threads + Sync>(rt: &R, alloc: Global, workers: usize,
     holds(rt, fault == VerifyFault::Differs(wanted), "entry");
 }
 
-/// So many workers verify the table of 3-3 by classes once it was built.
-fn assert_verified<R: Abort + Threads + Wait + Sync>(rt: &R, alloc: Global, workers: usize) {
-    assert!(rt; 1 <= workers && workers <= 64);
-    let shelf = empty::<Nine>(rt, alloc);
-    let pair = pair(rt, 3, 3);
-    let table = build_as(rt, alloc, &shelf, pair, Layout::Classes, &OpenGate, 2, 16);
-    let raw = table.expect(rt, "a table").into_raw();
-    let verified = raw.verify_watched(rt, alloc, shelf.tables(), workers, &mut Unwatched);
-    same(
-        rt,
-        verified.ok().expect(rt, "an exact table").len(),
-        210_140,
-        "entries",
-    );
-}
-
 #[test]
 fn each_number_of_workers_tells_the_first_entry_that_differs(rt: HostRuntime) {
     // The stones of the first 1,330 positions stand on 0, 1 and 2, and no move closes a mill. Then
@@ -53,10 +35,4 @@ fn each_number_of_workers_tells_the_first_entry_that_differs(rt: HostRuntime) {
         assert_told(&rt, rt.alloc(), workers, 1333);
     }
     assert_told(&rt, rt.alloc(), 64, 1333);
-}
-
-#[test]
-fn each_number_of_workers_believes_what_was_built(rt: HostRuntime) {
-    assert_verified(&rt, rt.alloc(), 1);
-    assert_verified(&rt, rt.alloc(), 3);
 }

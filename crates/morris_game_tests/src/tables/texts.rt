@@ -21,54 +21,45 @@ fn assert_text<D: Display + Drop>(rt: &impl Abort, alloc: Global, fault: D, text
 
 #[test]
 fn faults_of_files_have_texts(rt: HostRuntime) {
-    let alloc = rt.alloc();
-    assert_text(&rt, alloc, ReadFault::Short, "file is too short");
-    assert_text(&rt, alloc, ReadFault::Magic, "not a table file");
-    assert_text(&rt, alloc, ReadFault::Version, "unknown version");
-    assert_text(&rt, alloc, ReadFault::BoardId, "another board");
-    assert_text(&rt, alloc, ReadFault::Counts, "bad counts");
-    assert_text(&rt, alloc, ReadFault::Crowded, "more stones than points");
-    assert_text(&rt, alloc, ReadFault::Count, "wrong number of entries");
-    assert_text(&rt, alloc, ReadFault::Digest, "digest is wrong");
-    assert_text(&rt, alloc, ReadFault::Trailing, "bytes after the table");
-    assert_text(&rt, alloc, ReadFault::Read, "reading failed");
-    assert_text(&rt, alloc, ReadFault::Memory, "out of memory");
-    assert_text(&rt, alloc, Write(16), "writing failed after 16 bytes");
-}
-
-/// This is the text of a fault of a build.
-fn assert_build_text(rt: &impl Abort, alloc: Global, fault: BuildFault<Grid>, text: &str) {
-    assert_text(rt, alloc, fault, text);
-}
-
-#[test]
-fn faults_of_builds_have_texts(rt: HostRuntime) {
-    let alloc = rt.alloc();
-    assert_build_text(&rt, alloc, BuildFault::TooDeep, "depth is too great");
-    assert_build_text(&rt, alloc, BuildFault::Memory, "out of memory");
-    assert_build_text(&rt, alloc, BuildFault::Workers, "workers must be 1 to 64");
-    assert_build_text(&rt, alloc, BuildFault::Blocks, "blocks must be 1 to 1024");
-    assert_build_text(
-        &rt,
-        alloc,
-        BuildFault::Missing(7),
-        "block 7 is not complete",
-    );
+    for (fault, text) in [
+        (ReadFault::Short, "file is too short"),
+        (ReadFault::Magic, "not a table file"),
+        (ReadFault::Version, "unknown version"),
+        (ReadFault::BoardId, "another board"),
+        (ReadFault::Counts, "bad counts"),
+        (ReadFault::Crowded, "more stones than points"),
+        (ReadFault::Count, "wrong number of entries"),
+        (ReadFault::Digest, "digest is wrong"),
+        (ReadFault::Trailing, "bytes after the table"),
+        (ReadFault::Read, "reading failed"),
+        (ReadFault::Memory, "out of memory"),
+    ] {
+        assert_text(&rt, rt.alloc(), fault, text);
+    }
+    let write = "writing failed after 16 bytes";
+    assert_text(&rt, rt.alloc(), Write(16), write);
+    assert_text(&rt, rt.alloc(), Count, "wrong number of entries");
 }
 
 #[test]
-fn other_faults_have_texts(rt: HostRuntime) {
-    let alloc = rt.alloc();
-    assert_text(&rt, alloc, Count, "wrong number of entries");
-    assert_text(
-        &rt,
-        alloc,
-        VerifyFault::<Nine>::Differs(20),
-        "entry 20 differs",
-    );
-    assert_text(&rt, alloc, ProbeFault::<Nine>::Memory, "out of memory");
-    let write = ProbeFault::<Nine>::Write(16);
-    assert_text(&rt, alloc, write, "writing failed after 16 bytes");
+fn faults_of_builds_and_the_prober_have_texts(rt: HostRuntime) {
+    for (fault, text) in [
+        (BuildFault::<Grid>::TooDeep, "depth is too great"),
+        (BuildFault::Memory, "out of memory"),
+        (BuildFault::Workers, "workers must be 1 to 64"),
+        (BuildFault::Blocks, "blocks must be 1 to 1024"),
+        (BuildFault::Missing(7), "block 7 is not complete"),
+    ] {
+        assert_text(&rt, rt.alloc(), fault, text);
+    }
+    let differs = VerifyFault::<Nine>::Differs(20);
+    assert_text(&rt, rt.alloc(), differs, "entry 20 differs");
+    for (fault, text) in [
+        (ProbeFault::<Nine>::Memory, "out of memory"),
+        (ProbeFault::Write(16), "writing failed after 16 bytes"),
+    ] {
+        assert_text(&rt, rt.alloc(), fault, text);
+    }
 }
 
 // Each fault that says which table is needed has the text of that.

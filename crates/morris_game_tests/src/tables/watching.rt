@@ -1,56 +1,20 @@
 // Builds, sweeps and verifications that are watched.
-ghost use Rattle.std.specs.Prelude.{◌≤◌, vec_len};
-
 use crate::checks::{holds, same};
-use crate::tables::builds::Shut;
 use crate::tables::making::{built, empty, pair};
 use morris_board::grid::Grid;
+use morris_engine_tests::gates::ShutGate;
+use morris_engine_tests::scribes::Scribe;
 use morris_pairs::build_fault::BuildFault;
 use morris_pairs::layout::Layout;
 use morris_pairs::shelf::Needs;
 use morris_pairs::sweeping::sweep_pair_watched;
 use morris_pairs::table_set::TableSet;
 use morris_table::building::build_watched;
-use morris_workers::{OpenGate, Watch};
+use morris_workers::OpenGate;
 use std::alloc::Global;
 use std::process::Abort;
 use std::sync::Wait;
 use std::thread::Threads;
-
-/// Writes down the waves that it is told, and how many entries are done.
-#[derive(Drop)]
-struct Scribe {
-    told: Vec<u16>,
-    done: u64,
-}
-
-impl Scribe {
-    fn new(alloc: Global) -> Scribe {
-        Scribe {
-            told: Vec::new(alloc),
-            done: 0,
-        }
-    }
-}
-
-impl Watch for Scribe {
-    ghost use Rattle.std.proofs.Common.{arith};
-
-    ghost becomes = { λ old new. vec_len old.told ≤ vec_len new.told };
-
-    fn wave(&mut self, wave: u16) {
-        // A wave for which memory is refused is missing in the list, which a test sees.
-        let _ = self.told.push(wave);
-    }
-
-    fn entries(&mut self, done: u64) {
-        self.done = done;
-    }
-
-    ghost stays = { λ watch. omega arith };
-
-    ghost joins = { λ first then last once again. omega (arith, once, again) };
-}
 
 /// Four waves were told. No value of 3-3 is deeper than a win in 3, which wave 3 decides; wave 4
 /// decides nothing more.
@@ -99,7 +63,8 @@ fn assert_waves_before<R: Abort + Threads + Wait + Sync>(
     let tables = &TableSet::new(alloc).expect(rt, "memory");
     let mut scribe = Scribe::new(alloc);
     let watch = &mut scribe;
-    let refused = build_watched(rt, alloc, tables, pair, layout, &Shut, watch, workers, 5).err();
+    let gate = &ShutGate;
+    let refused = build_watched(rt, alloc, tables, pair, layout, gate, watch, workers, 5).err();
     holds(rt, refused == Some(fault), "fault");
     same(rt, scribe.told.len() as u64, waves, "waves");
 }

@@ -7,16 +7,22 @@ use std::alloc::Global;
 /// Takes up to a number of bytes a call, and fails at the call after it has taken as many as it has
 /// room for.
 #[derive(Drop)]
-pub(crate) struct Counting {
-    pub(crate) taken: Vec<u8>,
-    pub(crate) at_once: usize,
-    pub(crate) room: usize,
-    pub(crate) calls: u64,
-    pub(crate) failed: u64,
+pub struct Counting {
+    /// The bytes that were taken.
+    pub taken: Vec<u8>,
+    /// How many bytes it takes a call at most.
+    at_once: usize,
+    /// How many bytes it takes in all.
+    room: usize,
+    /// How often it was called.
+    pub calls: u64,
+    /// How many calls failed.
+    pub failed: u64,
 }
 
 impl Counting {
-    pub(crate) fn new(alloc: Global, at_once: usize, room: usize) -> Counting
+    /// A sink that was not called yet.
+    pub fn new(alloc: Global, at_once: usize, room: usize) -> Counting
         ensures { result.failed ≡ 0 }
     {
         Counting {
