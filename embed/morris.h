@@ -55,7 +55,7 @@ int32_t morris_interface(void);
 
 /* The version of Morris, as `morris --version` prints it: of this header, and of the library that
  * the program runs with. The text is never freed. */
-#define MORRIS_VERSION_STRING "1.0.8"
+#define MORRIS_VERSION_STRING "1.0.9"
 const char *morris_version(void);
 
 /* ---- boards, kinds of values */

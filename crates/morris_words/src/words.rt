@@ -56,7 +56,7 @@ fn parse<'a, S: AsStr>(alloc: Global, words: &'a [S]) -> Result<ArgMatches<'a>, 
 }
 
 // The version of the program, and those of the table files that it writes and reads.
-const VERSION: &str = "1.0.8\ntable files: writes and reads versions 1 and 2";
+const VERSION: &str = "1.0.9\ntable files: writes and reads versions 1 and 2";
 
 const BOARD_HELP: &str = "The board: nine or grid";
 
