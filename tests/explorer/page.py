@@ -1,76 +1,91 @@
-"""The explorer's page in a browser: what a person does there, and what it then shows, held against
-`morris lookup` and `morris stats`."""
+"""Does in a headless Chromium what a person does on the explorer's page, and compares what it then
+shows with what `morris lookup` and `morris stats` print."""
+
+import functools
+import unittest
+from collections import Counter
 
 from tests.explorer.browser import DELETE, DOWN, ENTER, ESCAPE, LEFT, RIGHT, TAB, UP, Browser
-from tests.explorer.requests import found
-from tests.explorer.server import Wrong, all_of_grid, check, line_of, looked_up, made_up
-from tests.explorer.server import note_runs, stats_of
+from tests.explorer.browser import is_installed
+from tests.explorer.common import PAIRS, Explored, all_of_grid, fields, made_up, points_of
+from tests.lib.program import count
 
+# How many positions of each board are shown, and by how many stones.
 ASKED = 200
-COUNTS = [(3, 3), (4, 3), (3, 4), (4, 4)]
+STONES = [(3, 3), (4, 3), (3, 4), (4, 4)]
 # Won in 9 plies.
 LONG = "OXO.OXO.XX.............."
-LOSES = "loses against best play. Hold out as long as you can."
-GRID_PAIRS = ["3-3", "4-3", "4-4", "5-3", "5-4", "6-3"]
-NINE_PAIRS = ["3-3", "4-3", "4-4"]
-LISTED = """
-    return [...document.querySelectorAll('#moves button')].map((it) =>
-        [it.dataset.move, it.querySelector('.words')?.textContent ?? null]);
-"""
-ROWS = """
-    return [...document.querySelectorAll('#sides tr[data-value]')].map((it) =>
-        [it.dataset.value, Number(it.querySelector('[data-count]').dataset.count)]);
-"""
-FOCUSED = "return [...document.querySelectorAll('.point')].indexOf(document.activeElement);"
-MARKS = """
-    const found = {};
-    document.querySelectorAll('.point').forEach((it, place) => {
-        if (it.classList.contains('marked')) found[place] = it.querySelector('.mark').textContent;
-    });
-    return found;
-"""
+COUNTS = "[it.dataset.value, Number(it.querySelector('[data-count]').dataset.count)]"
+MARK = "it.classList.contains('marked') ? it.querySelector('.mark').textContent : null"
+NAME = """it.getAttribute('aria-label') || it.getAttribute('aria-labelledby')
+    || it.textContent.trim() || it.labels?.length ? null : it.outerHTML"""
 PASTE = """
     const data = new DataTransfer();
     data.setData('text', arguments[0]);
     const how = {clipboardData: data, bubbles: true, cancelable: true};
     document.body.dispatchEvent(new ClipboardEvent('paste', how));
 """
-DEEPEST = """
-    return [...document.querySelectorAll('.deepest a')].map((it) => it.getAttribute('href'));
-"""
-NAMELESS = """
-    const name = (it) => it.getAttribute('aria-label') || it.getAttribute('aria-labelledby')
-        || it.textContent.trim() || it.labels?.length;
-    const all = document.querySelectorAll('button, input, select, .point, progress, svg');
-    return [...all].filter((it) => !name(it)).map((it) => it.outerHTML);
-"""
-LABELS = """
-    return [...document.querySelectorAll('.point')].map((it) => it.getAttribute('aria-label'));
-"""
-PRINTED = """
-    return ['#board', '#value', '#moves', 'nav', '#steps', '.text'].map((it) =>
-        document.querySelector(it).checkVisibility());
-"""
-MILLISECONDS = """
-    return performance.getEntriesByType('resource')
-        .filter((it) => it.name.includes('/api/position')).map((it) => it.duration);
-"""
+SHOWN = "const it = document.body.dataset.shown; "
 SIGNS = {"won": "+", "draw": "=", "lost": "\u2212"}
 
 
-class Page:
-    """The page in a browser, as a person sees it who knows what `morris lookup` says."""
+def in_plies(value):
+    """A value of `morris lookup` as the list of moves has it."""
+    return value if value == "draw" else f"{value} {'ply' if value.endswith(' 1') else 'plies'}"
 
-    def __init__(self, browser, server, folder):
-        self.browser, self.server, self.folder = browser, server, folder
 
-    def go(self, address):
-        """Changes what stands behind the page's address."""
-        self.browser.run("location.hash = arguments[0];", address)
+def headline(value, mover):
+    """How the page begins to say a value of `morris lookup`."""
+    result, depth = fields(value)
+    if result == "draw":
+        return "Draw"
+    winner = ("White", "Black")[(result == "won") != (mover == "white")]
+    return winner + (f" wins {in_plies(value).split(' ', 1)[1]}" if depth else " has won")
+
+
+def worth(value):
+    """A number by which values are ordered for the player to move."""
+    result, depth = fields(value)
+    return {"won": 1, "draw": 0, "lost": -1}[result] / (1 + (depth or 0))
+
+
+def marks_of(values, place):
+    """What stands on the board for values of moves, by the points at a place of their names."""
+    found = {points_of(move)[place]: fields(value) for move, value in values.items()}
+    return {it: SIGNS[result] + str(depth or "") for it, (result, depth) in found.items()}
+
+
+@functools.cache
+def opened():
+    """The browser, which ends with the suite."""
+    browser = Browser()
+    unittest.addModuleCleanup(browser.end)
+    browser.begin()
+    return browser
+
+
+class Page(Explored):
+    """A test case of the page, which is opened anew for each test."""
+
+    def setUp(self):
+        if not is_installed():
+            self.skipTest("chromium and chromedriver")
+        super().setUp()
+        self.browser = opened()
+        self.browser.open("about:blank")
+        self.browser.errors()
+        self.browser.open(self.server.url)
+        self.addCleanup(lambda: self.assertEqual(self.browser.errors(), []))
+
+    # ---- what is on the page
+
+    def each(self, selector, expression):
+        """The value of an expression for each element `it`."""
+        script = f"return [...document.querySelectorAll('{selector}')].map((it) => {expression});"
+        return self.browser.run(script)
 
     def text(self, selector):
-        script = "return document.querySelector(arguments[0]).textContent;"
-        return self.browser.run(script, selector)
+        return self.each(selector, "it.textContent")[0]
 
     def has(self, selector, condition, *words):
         """Waits until the text `it` of an element is like that, and gives it."""
@@ -78,490 +93,387 @@ class Page:
         script += f"return {condition} ? it || ' ' : null;"
         return self.browser.wait(f"{selector}: {condition} {words}", script, *words)
 
-    def press(self, point):
-        self.browser.click(f".point:nth-of-type({point + 1})")
-
-    def mode(self, name):
-        self.browser.click(f"[data-to={name}]")
-
-    def shows(self, board, text, mover="white"):
-        """Waits until the answer for a position is on the page."""
-        note_runs()
-        name = f"{board}/{text}/{mover}"
-        self.browser.wait(name, "return document.body.dataset.shown === arguments[0];", name)
-
-    def leaves(self, name):
-        """Waits until the answer for another position is on the page."""
-        script = "const it = document.body.dataset.shown; return it && it !== arguments[0];"
-        self.browser.wait(f"something after {name}", script, name)
-
-    def shown(self):
-        """The board, text and side to move of the position that is on the page."""
-        return self.browser.wait("a position", "return document.body.dataset.shown;").split("/")
-
     def notes(self, words):
         self.has("#note", "it.includes(arguments[0])", words)
 
-    def shows_pair(self, board, pair):
-        """Goes to a pair, and waits until its numbers are on the page."""
-        self.go(f"#{board}/pair/{pair}")
-        name = f"{board}/pair/{pair}"
-        self.browser.wait(name, "return document.body.dataset.shown === arguments[0];", name)
+    def listed(self):
+        words = "it.querySelector('.words')?.textContent ?? null"
+        return self.each("#moves button", f"[it.dataset.move, {words}]")
+
+    def marks(self):
+        """What is marked on the board, by points."""
+        found = enumerate(self.each(".point", MARK))
+        return {point: mark for point, mark in found if mark is not None}
+
+    def shows(self, *parts):
+        """Waits until the answer for a position, or the numbers of a pair, are on the page. Nothing
+        is waited for without its name."""
+        if parts:
+            count()
+            name = "/".join(parts if len(parts) > 2 else (*parts, "white"))
+            self.browser.wait(f"to show {name}", f"{SHOWN} return it === arguments[0];", name)
+
+    def leaves(self, *parts):
+        """Waits until the answer for another position is on the page."""
+        script = f"{SHOWN} return it && it !== arguments[0];"
+        self.browser.wait(f"to leave {parts}", script, "/".join(parts))
+
+    def place(self):
+        """The board, text and side to move of the position that is on the page."""
+        return self.browser.wait("a position", f"{SHOWN} return it;").split("/")
 
     def looked(self, board, text):
-        return looked_up(board, self.folder, [text])[text]
+        return self.looked_up(board, [text])[text]
+
+    def check(self, board, text, mover="white", looked=None):
+        """Waits for a position: the page shows its value and all its moves, best first."""
+        self.shows(board, text, mover)
+        looked, listed = looked or self.looked(board, text), self.listed()
+        value = self.text("#value").partition(":")[0]
+        self.assertEqual(value, headline(looked.value, mover), text)
+        moves = sorted([move, in_plies(value)] for move, value in looked.moves.items())
+        self.assertEqual(sorted(listed), moves, text)
+        order = [worth(looked.moves[move]) for move, _ in listed]
+        self.assertEqual(order, sorted(order, reverse=True), text)
+
+    # ---- what is done there
+
+    def go(self, address):
+        """Changes what stands behind the page's address."""
+        self.browser.run("location.hash = arguments[0];", address)
+
+    def visit(self, *parts):
+        """Goes to a position, or to a pair, and waits until it is on the page."""
+        self.go("#" + "/".join(parts))
+        self.shows(*parts)
+
+    def click(self, selector, *shown):
+        """Clicks on an element, and waits for what is to be shown then, if that is given."""
+        self.browser.click(selector)
+        self.shows(*shown)
+
+    def keys(self, *keys, shown=()):
+        """Presses keys, in the same way."""
+        self.browser.press(*keys)
+        self.shows(*shown)
+
+    def press(self, *points):
+        for point in points:
+            self.click(f".point:nth-of-type({point + 1})")
+
+    def click_move(self, move):
+        self.click(f"[data-move='{move}']")
+
+    def choose(self, move):
+        """Makes a move by clicks on the board, and looks at what is marked on the way."""
+        start, end, taken = points_of(move)
+        board, text, _ = self.place()
+        moves = self.looked(board, text).moves
+        self.press(start)
+        ends = {points_of(it)[1] for it in moves if it.startswith(f"{start}-")}
+        self.assertEqual(set(self.marks()), ends, text)
+        self.press(end)
+        if taken is not None:
+            captures = {it: moves[it] for it in moves if it.startswith(f"{start}-{end}x")}
+            self.assertEqual(self.marks(), marks_of(captures, 2), text)
+            self.press(taken)
+
+    def focus(self, selector):
+        """Goes to an element by the tabulator alone."""
+        for _ in range(200):
+            self.keys(TAB)
+            if self.browser.run("return document.activeElement.matches(arguments[0]);", selector):
+                return
+        self.fail(f"the tabulator doesn't get to {selector}")
+
+    def arrows(self, point, *keys):
+        """Goes to a point of the board by arrows."""
+        self.keys(*keys)
+        focused = self.each(".point", "it === document.activeElement")
+        self.assertEqual(focused.index(True), point)
 
 
-def plies(value):
-    """The words of the list for a value of `morris lookup`."""
-    if value == "draw":
-        return value
-    return f"{value} {'ply' if value.split()[-1] == '1' else 'plies'}"
+class Positions(Page):
+    """Positions on the page, how they get there, and what is played from them; and pairs."""
+
+    def test_first_position(self):
+        """Without an address, and with a wrong one, it is one of which there is a table."""
+        self.check("nine", LONG)
+        self.go("#nine/XXX")
+        self.notes("no position")
+        self.shows("nine", LONG)
+
+    def test_positions_by_their_addresses(self):
+        grid = sorted({*all_of_grid((3, 3))[::17], *all_of_grid((4, 3))[::23]})[:ASKED]
+        for board, texts in (("nine", made_up(ASKED, STONES, 62)), ("grid", grid)):
+            looked = self.looked_up(board, texts)
+            for place, text in enumerate(texts):
+                parts = board, text, *["black"] * (place % 2)
+                self.visit(*parts)
+                self.check(*parts, looked=looked[text])
+
+    def test_setting_up(self):
+        """Stones are put, changed and taken by clicks, sides are swapped, and a text is pasted."""
+        self.click("[data-to=setup]")
+        self.click("#clear")
+        self.press(1, 5, 3, 8, 9, 20)
+        self.click("[name=tool][value=black]")
+        # 3 was white and is black now, and 20 was changed and then taken.
+        self.press(0, 2, 4, 6, 3, 20, 20)
+        self.shows("nine", "OXOOOXO.XX..............")
+        self.press(3)
+        self.check("nine", LONG)
+        self.click("[name=mover][value=black]")
+        self.check("nine", LONG.translate(str.maketrans("XO", "OX")), "black")
+        self.click("#swap", "nine", LONG, "black")
+        text = "XX......OOO............X"
+        self.browser.run(PASTE, f" {text.lower()}\n")
+        self.check("nine", text)
+        self.browser.run("document.querySelector('#text').select();")
+        self.keys(*"XXX.OO.O.", ENTER, shown=("grid", "XXX.OO.O."))
+        self.browser.run("document.querySelector('#text').select();")
+        self.keys(*"XXX.OO.", ENTER)
+        self.notes("not 7")
+
+    def test_playing(self):
+        """Moves by clicks on the board, with a capture; back, forward and to the start; a move of
+        the list, which the board shows when it is pointed at."""
+        text = "XX.X.X..O.O.O.O........."
+        self.visit("nine", text)
+        capture = next(it for it in self.looked("nine", text).moves if "x" in it)
+        self.choose(capture)
+        self.assertEqual(self.has("#played", "it !== ''"), capture)
+        second = self.place()
+        self.assertEqual(second[2], "black")
+        self.check(*second)
+        self.click("#back", "nine", text)
+        self.click("#forward", *second)
+        first = self.listed()[0][0]
+        self.browser.point_at(f"[data-move='{first}']")
+        self.browser.wait("an arrow", "return document.querySelector('.arrow line') !== null;")
+        self.click_move(first)
+        self.has("#played", "it.includes(' ')")
+        self.click("#start", "nine", text)
+
+    def test_best_line_to_the_end(self):
+        """It is that of `morris lookup`; then back, and the same page from its address."""
+        lines = self.shown(["lookup", "nine", "--from", self.folder, "--line", LONG]).splitlines()
+        moves, texts = zip(*(line.split()[:2] for line in lines[1:]))
+        self.visit("nine", LONG)
+        self.click("#best", "nine", texts[-1], "black")
+        self.has("#best", "it === 'Best line'")
+        self.assertEqual(self.text("#played"), " ".join(moves))
+        self.assertTrue(self.text("#value").startswith("White has won"))
+        self.click("#back", "nine", texts[-2], "white")
+        address = self.browser.run("return location.href;")
+        self.browser.reload()
+        self.check("nine", texts[-2], "white")
+        self.assertEqual(self.browser.run("return location.href;"), address)
+
+    def test_best_line_of_a_draw(self):
+        """It ends where a position repeats, or where it is stopped."""
+        looked = self.looked_up("grid", all_of_grid((3, 3)))
+        text = next(it for it in looked if looked[it].value == "draw")
+        self.visit("grid", text)
+        self.click("#best")
+        self.has("#played", "it !== ''")
+        self.click("#best")
+        self.assertEqual(self.text("#best"), "Best line")
+        self.click("#start", "grid", text)
+        self.click("#best")
+        self.notes("repeats")
+
+    def test_missing_table(self):
+        """The pair is named, and what makes it."""
+        self.visit("nine", "XXXXX..OOOOO............")
+        self.notes("There is no table of 5-5")
+        command = f"./morris build nine 5-5 --classes --into {self.folder}"
+        self.assertEqual(self.text("#command"), command)
+
+    def test_numbers_of_pairs(self):
+        """How many positions have each value; and the deepest ones, one click away."""
+        for board, pair in ((board, pair) for board in PAIRS for pair in PAIRS[board]):
+            with self.subTest(board, pair=pair):
+                self.visit(board, "pair", pair)
+                found, expected = Counter(), Counter()
+                for value, many in self.each("#sides tr[data-value]", COUNTS):
+                    found[value] += many
+                for side in self.counted(board, pair).values():
+                    expected.update(side)
+                self.assertEqual(+found, expected)
+                addresses = self.each(".deepest a", "it.getAttribute('href')")
+                for address in addresses:
+                    self.click(f".deepest a[href='{address}']")
+                    self.check(board, address.split("/")[1])
+                    self.visit(board, "pair", pair)
+                texts = {address.split("/")[1] for address in addresses}
+                self.assertLessEqual(set(self.deepest(board, pair)), texts)
 
 
-def in_words(value, mover="white"):
-    """How the page begins to say a value of `morris lookup`."""
-    if value == "draw":
-        return "Draw"
-    result, depth = value.split(" in ")
-    wins = ("White", "Black")[(result == "won") != (mover == "white")]
-    return f"{wins} has won" if depth == "0" else f"{wins} wins in {plies(depth)}"
+class Exercises(Page):
+    """Positions that are to be played, while their values are hidden."""
 
+    def exercise(self, board, kind, *beginnings):
+        """Goes to the first exercise of a kind, by its seed, in whose position there are moves with
+        values that begin like that. Gives its text, its depth, and such moves with theirs."""
+        pair, result, plies = kind.split("/")
+        words = dict(zip(("least", "most"), plies.split("-")), pair=pair, result=result)
+        for seed in range(1, 400):
+            text = self.server.find(board=board, **words, seed=seed)["text"]
+            looked = self.looked(board, text)
+            values = {value: move for move, value in looked.moves.items()}
+            first = [next((it for it in values if it.startswith(one)), None) for one in beginnings]
+            if all(first):
+                self.assertEqual(looked.value.split()[0], result)
+                self.go(f"#{board}/find/{kind}/{seed}")
+                self.shows(board, text)
+                moves = [(values[it], fields(it)[1]) for it in first]
+                return text, fields(looked.value)[1], moves
+        self.fail(f"no exercise of {kind} has such moves")
 
-def worth(value):
-    if value == "draw":
-        return 0
-    result, depth = value.split(" in ")
-    return (1 if result == "won" else -1) / (1 + int(depth))
+    def hides(self, text):
+        self.shows("nine", text)
+        hidden = self.text("#value"), {words for _, words in self.listed()}
+        self.assertEqual(hidden, ("", {None}))
 
-
-def check_shown(page, text, looked, mover="white"):
-    """The page shows the value of a position and all its moves, best first."""
-    value, listed = page.text("#value"), page.browser.run(LISTED)
-    check(f"the value of {text}", value.startswith(in_words(looked.value, mover)), True)
-    wanted = sorted((it.name, plies(it.value)) for it in looked.moves)
-    check(f"moves of {text}", sorted(map(tuple, listed)), wanted)
-    values = {it.name: it.value for it in looked.moves}
-    order = [worth(values[name]) for name, _ in listed]
-    check(f"the order of moves of {text}", order, sorted(order, reverse=True))
-
-
-# ---- what is tried
-
-
-def check_first(page):
-    """Without an address, the page begins with a position of which there is a table."""
-    page.browser.open(page.server.url)
-    page.shows("nine", LONG)
-    check_shown(page, LONG, page.looked("nine", LONG))
-    page.go("#nine/XXX")
-    page.notes("no position")
-    page.shows("nine", LONG)
-
-
-def check_positions(page):
-    """Many positions by their addresses."""
-    grid = sorted(set(all_of_grid((3, 3))[::17] + all_of_grid((4, 3))[::23]))[:ASKED]
-    asked = {"nine": made_up(ASKED, COUNTS, 62), "grid": grid}
-    for board, texts in asked.items():
-        looked = looked_up(board, page.folder, texts)
-        for place, text in enumerate(texts):
-            mover = ("white", "black")[place % 2]
-            page.go(f"#{board}/{text}" + ("/black" if place % 2 else ""))
-            page.shows(board, text, mover)
-            check_shown(page, text, looked[text], mover)
-    return sum(map(len, asked.values()))
-
-
-def check_set_up(page):
-    """Stones are put, changed and taken by clicks, sides are swapped, and a text is pasted."""
-    browser = page.browser
-    page.go(f"#nine/{LONG}")
-    page.shows("nine", LONG)
-    page.mode("setup")
-    browser.click("#clear")
-    for point in (1, 5, 3, 8, 9, 20):
-        page.press(point)
-    browser.click("[name=tool][value=black]")
-    for point in (0, 2, 4, 6, 3, 20, 20):
-        page.press(point)
-    # 3 was white and is black now, and 20 was changed and then taken.
-    page.shows("nine", "OXOOOXO.XX..............")
-    page.press(3)
-    page.shows("nine", LONG)
-    check_shown(page, LONG, page.looked("nine", LONG))
-    browser.click("[name=mover][value=black]")
-    swapped = LONG.translate(str.maketrans("XO", "OX"))
-    page.shows("nine", swapped, "black")
-    check_shown(page, swapped, page.looked("nine", swapped), "black")
-    browser.click("#swap")
-    page.shows("nine", LONG, "black")
-    text = "XX......OOO............X"
-    browser.run(PASTE, f" {text.lower()}\n")
-    page.shows("nine", text)
-    check_shown(page, text, page.looked("nine", text))
-    browser.write("#text", f"XXX.OO.O.{ENTER}")
-    page.shows("grid", "XXX.OO.O.")
-    browser.write("#text", f"XXX.OO.{ENTER}")
-    page.notes("not 7")
-
-
-def choose(page, move):
-    """Makes a move by clicks on the board, and looks at what is marked on the way."""
-    start, end, taken = move.parts
-    board, text, _ = page.shown()
-    looked = page.looked(board, text)
-    page.press(start)
-    marks = page.browser.run(MARKS)
-    ends = {str(it.parts[1]) for it in looked.moves if it.parts[0] == start}
-    check(f"where {start} may go in {text}", set(marks), ends)
-    page.press(end)
-    if taken is not None:
-        those = [it for it in looked.moves if it.parts[:2] == (start, end)]
-        wanted = {str(it.parts[2]): mark_of(it.value) for it in those}
-        check(f"what may be taken in {text}", page.browser.run(MARKS), wanted)
-        page.press(taken)
-
-
-def mark_of(value):
-    result, _, depth = value.partition(" in ")
-    return SIGNS[result] + depth
-
-
-def check_play(page):
-    """Moves by clicks on the board, with a capture; back, forward and to the start; a move from the
-    list, which the board shows when it is pointed at."""
-    browser = page.browser
-    text = "XX.X.X..O.O.O.O........."
-    page.mode("play")
-    page.go(f"#nine/{text}")
-    page.shows("nine", text)
-    capture = next(it for it in page.looked("nine", text).moves if it.parts[2] is not None)
-    choose(page, capture)
-    check("what was played", page.has("#played", "it !== ''"), capture.name)
-    _, second, mover = page.shown()
-    check("who is to move", mover, "black")
-    check_shown(page, second, page.looked("nine", second), "black")
-    browser.click("#back")
-    page.shows("nine", text)
-    browser.click("#forward")
-    page.shows("nine", second, "black")
-    listed = browser.run(LISTED)
-    browser.point_at(f"[data-move='{listed[0][0]}']")
-    browser.wait("an arrow", "return document.querySelector('.arrow line') !== null;")
-    browser.click(f"[data-move='{listed[0][0]}']")
-    page.has("#played", "it.includes(' ')")
-    browser.click("#start")
-    page.shows("nine", text)
-
-
-def check_best_line(page):
-    """A line of best play to its end is that of `morris lookup`; then back, and the same page from
-    its address."""
-    browser = page.browser
-    page.go(f"#nine/{LONG}")
-    page.shows("nine", LONG)
-    browser.click("#best")
-    line = line_of("nine", page.folder, LONG)
-    movers = ["black", "white"] * len(line)
-    page.shows("nine", line[-1][1], movers[len(line) - 1])
-    page.has("#best", "it === 'Best line'")
-    check("the line", page.text("#played"), " ".join(name for name, _ in line))
-    check("its end", page.text("#value").startswith("White has won"), True)
-    browser.click("#back")
-    page.shows("nine", line[-2][1], movers[len(line) - 2])
-    address = browser.address()
-    browser.reload()
-    page.shows("nine", line[-2][1], movers[len(line) - 2])
-    check("the address", browser.address(), address)
-    check_shown(page, line[-2][1], page.looked("nine", line[-2][1]), movers[len(line) - 2])
-
-
-def check_drawn_line(page):
-    """A line of best play of a draw ends where a position repeats, or where it is stopped."""
-    browser = page.browser
-    looked = looked_up("grid", page.folder, all_of_grid((3, 3)))
-    text = next(it for it in looked if looked[it].value == "draw")
-    page.go(f"#grid/{text}")
-    page.shows("grid", text)
-    browser.click("#best")
-    page.has("#played", "it !== ''")
-    browser.click("#best")
-    check("the button", page.text("#best"), "Best line")
-    browser.click("#start")
-    page.shows("grid", text)
-    browser.click("#best")
-    page.notes("repeats")
-
-
-def is_hidden(page):
-    listed = page.browser.run(LISTED)
-    return page.text("#value") == "" and all(words is None for _, words in listed)
-
-
-def move_of(looked, is_wanted):
-    """A legal move whose value is like that."""
-    return next((it for it in looked.moves if is_wanted(it.value)), None)
-
-
-def exercise(page, board, kind, *conditions):
-    """Goes to the first exercise of a kind, by its seed, in whose position there are moves with
-    values like that. Gives its text, what is looked up, and such moves."""
-    pair, result, plies_of = kind.split("/")
-    words = {"board": board, "pair": pair, "result": result}
-    words["least"], words["most"] = plies_of.split("-")
-    for seed in range(1, 400):
-        text = found(page.server, **words, seed=seed)["text"]
-        looked = page.looked(board, text)
-        moves = [move_of(looked, it) for it in conditions]
-        if all(moves):
-            page.go(f"#{board}/find/{kind}/{seed}")
-            page.shows(board, text)
-            return text, looked, moves
-    raise Wrong(f"no exercise of {kind} has such moves")
-
-
-def plies_between(one, other):
-    """In how many plies two values of one result differ, in words."""
-    return f"{abs(int(one.split()[-1]) - int(other.split()[-1]))} plies"
-
-
-def check_exercise(page):
-    """An exercise: the same from the same address; a wrong move and a slow one, which are taken
-    back; and right ones to the end."""
-    browser = page.browser
-    conditions = [lambda it: not it.startswith("won"), lambda it: it.startswith("won in 2")]
-    text, looked, (wrong, slow) = exercise(page, "nine", "4-3/won/5-19", *conditions)
-    check("what is asked", 1 / 20 <= worth(looked.value) <= 1 / 6, True)
-    check("that values are hidden", is_hidden(page), True)
-    browser.reload()
-    page.shows("nine", text)
-    check("that values are hidden", is_hidden(page), True)
-    choose(page, wrong)
-    page.notes("The win is gone")
-    browser.click("#again")
-    page.shows("nine", text)
-    check("that values are hidden", is_hidden(page), True)
-    browser.click(f"[data-move='{slow.name}']")
-    page.notes(f"{plies_between(slow.value, looked.value)} more than needed")
-    browser.click("#back")
-    page.shows("nine", text)
-    solve(page)
-
-
-def solve(page):
-    """Plays the best moves until the exercise is over."""
-    for _ in range(60):
-        board, text, mover = page.shown()
-        if mover == "black":
-            page.leaves(f"{board}/{text}/black")
-            continue
-        looked = page.looked(board, text)
-        page.browser.click(f"[data-move='{looked.best[0]}']")
-        page.leaves(f"{board}/{text}/white")
-        if looked.value == "won in 1":
-            page.notes("You have won")
-            page.notes("none was better")
-            return
-        page.notes("no move is better")
-    raise Wrong("an exercise that doesn't end")
-
-
-def check_other_exercises(page):
-    """One of a loss and one of a draw; one that there isn't; and values that are shown after
-    all."""
-    browser = page.browser
-    soon, lost = (lambda it: it in ("lost in 2", "lost in 4")), (lambda it: it.startswith("lost"))
-    _, looked, (fast,) = exercise(page, "nine", "3-3/lost/10-26", soon)
-    check("what is asked", page.text("#task"), f"White {LOSES}")
-    browser.click(f"[data-move='{fast.name}']")
-    page.notes(f"{plies_between(fast.value, looked.value)} sooner than needed")
-    text, looked, (bad,) = exercise(page, "grid", "4-3/draw/1-9", lost)
-    check("what is asked", looked.value, "draw")
-    browser.click("#reveal")
-    check_shown(page, text, looked)
-    browser.click(f"[data-move='{bad.name}']")
-    page.notes("The draw is gone")
-    browser.click("#on")
-    page.has("#played", "it.includes(' ')")
-    exercise(page, "grid", "3-3/draw/1-9", lost)
-    hold(page)
-    page.go("#grid/find/4-3/won/31-99/3")
-    page.notes("No position")
-
-
-def hold(page):
-    """Holds a draw by best moves until a position comes again."""
-    for _ in range(40):
-        board, text, mover = page.shown()
-        if "repeats" in page.text("#note"):
-            page.notes("a draw")
-            return
+    def play_best(self):
+        """Makes the best move, or waits for that of the other side. Gives the value before."""
+        board, text, mover = self.place()
+        looked = self.looked(board, text)
         if mover == "white":
-            page.browser.click(f"[data-move='{page.looked(board, text).best[0]}']")
-        page.leaves(f"{board}/{text}/{mover}")
-    raise Wrong("a draw that doesn't end")
+            self.click_move(looked.best[0])
+        self.leaves(board, text, mover)
+        return mover, looked.value
+
+    def test_win(self):
+        """It is the same from the same address; a wrong move and a slow one are taken back; and
+        right ones lead to the end."""
+        text, depth, moves = self.exercise("nine", "4-3/won/5-19", ("draw", "lost"), "won in 2")
+        self.assertIn(depth, range(5, 20))
+        self.hides(text)
+        self.browser.reload()
+        self.hides(text)
+        (wrong, _), (slow, slower) = moves
+        self.choose(wrong)
+        self.notes("The win is gone")
+        self.click("#again")
+        self.hides(text)
+        self.click_move(slow)
+        self.notes(f"{slower - depth} plies more than needed")
+        self.click("#back", "nine", text)
+        for _ in range(60):
+            mover, value = self.play_best()
+            if value == "won in 1":
+                self.notes("You have won")
+                return self.notes("none was better")
+            if mover == "white":
+                self.notes("no move is better")
+        self.fail("an exercise that doesn't end")
+
+    def test_loss(self):
+        soon = ("lost in 4", "lost in 6", "lost in 8")
+        _, depth, [(fast, sooner)] = self.exercise("nine", "3-3/lost/10-26", soon)
+        task = "White loses against best play. Hold out as long as you can."
+        self.assertEqual(self.text("#task"), task)
+        self.click_move(fast)
+        self.notes(f"{depth - sooner} plies sooner than needed")
+
+    def test_draw(self):
+        """One that is given away, after its values were shown; and one that is held until a
+        position comes again."""
+        text, _, [(bad, _)] = self.exercise("grid", "4-3/draw/1-9", "lost")
+        self.click("#reveal")
+        self.check("grid", text)
+        self.click_move(bad)
+        self.notes("The draw is gone")
+        self.click("#on")
+        self.has("#played", "it.includes(' ')")
+        self.exercise("grid", "3-3/draw/1-9", "lost")
+        for _ in range(40):
+            if "repeats" in self.text("#note"):
+                return self.notes("a draw")
+            self.play_best()
+        self.fail("a draw that doesn't end")
+
+    def test_no_such_position(self):
+        self.go("#grid/find/4-3/won/31-99/3")
+        self.notes("No position")
 
 
-def check_pair(page, board, pair):
-    """The numbers of a pair, and its deepest positions one click away."""
-    browser = page.browser
-    page.shows_pair(board, pair)
-    counts, deepest = stats_of(board, pair)
-    shown = {}
-    for value, count in browser.run(ROWS):
-        shown[value] = shown.get(value, 0) + count
-    wanted = {value: count for value, count in counts.items() if count}
-    check(f"the numbers of {pair}", {it: shown[it] for it in shown if shown[it]}, wanted)
-    linked = set()
-    for address in browser.run(DEEPEST):
-        text = address.split("/")[1]
-        browser.click(f".deepest a[href='{address}']")
-        page.shows(board, text)
-        looked = page.looked(board, text)
-        check_shown(page, text, looked)
-        linked.add((text, looked.value))
-        page.shows_pair(board, pair)
-    there = {tuple(it) for it in deepest.values() if it}
-    check("that the deepest positions are linked", linked & there, there)
+class Access(Page):
+    """The page by the keyboard, for a screen reader, in a narrow window and on paper."""
 
+    def test_setting_up_by_keys(self):
+        text = "XX......OOOO............"
+        self.visit("nine", text)
+        self.focus("[data-to=setup]")
+        self.keys(ENTER)
+        self.focus(".point")
+        self.arrows(0, *[UP] * 6, *[LEFT] * 6)
+        for point, way, key, mark in (
+            (7, [DOWN], "w", "X"),
+            (9, [UP, RIGHT, DOWN], DELETE, "."),
+            (9, [], "b", "O"),
+            (8, [LEFT], ENTER, "X"),
+        ):
+            self.arrows(point, *way)
+            text = text[:point] + mark + text[point + 1 :]
+            self.keys(key, shown=("nine", text))
+        self.focus("[data-to=play]")
+        self.keys(ENTER, shown=("nine", text))
 
-def check_pairs(page):
-    for pair in GRID_PAIRS:
-        check_pair(page, "grid", pair)
-    for pair in NINE_PAIRS:
-        check_pair(page, "nine", pair)
-    return len(GRID_PAIRS) + len(NINE_PAIRS)
+    def test_playing_by_keys(self):
+        """Moves the stone on 7 to 6, takes it back, and makes the first move of the list."""
+        text = "XX.....XXOOO............"
+        self.visit("nine", text)
+        looked = self.looked("nine", text)
+        self.focus(".point")
+        self.arrows(7, *[UP] * 6, *[LEFT] * 6, DOWN, ENTER)
+        moves = {it: looked.moves[it] for it in looked.moves if it.startswith("7-")}
+        self.assertEqual(self.marks(), marks_of(moves, 1))
+        self.keys(ESCAPE)
+        self.assertEqual(self.marks(), {})
+        self.keys(ENTER, DOWN, ENTER)
+        self.has("#played", "it === '7-6'")
+        self.focus("#back")
+        self.keys(ENTER, shown=("nine", text))
+        self.focus("#moves button")
+        best = self.browser.run("return document.activeElement.dataset.move;")
+        self.assertIn(best, looked.best)
+        self.keys(ENTER)
+        self.has("#played", "it === arguments[0]", best)
+        self.leaves("nine", text, "white")
+        focused = "return document.activeElement.matches('#moves button');"
+        self.browser.wait("the focus on a move", focused)
+        self.keys(ENTER)
+        self.has("#played", "it.includes(' ')")
 
+    def test_names_for_a_screen_reader(self):
+        """Each button and field has one, and each point says what stands on it."""
+        self.visit("nine", LONG, "black")
+        nameless = self.each("button, input, select, .point, progress, svg", NAME)
+        self.assertEqual([it for it in nameless if it], [])
+        stones = {"X": "Black stone", "O": "White stone", ".": "vacant"}
+        labels = [f"Point {place}: {stones[mark]}" for place, mark in enumerate(LONG)]
+        self.assertEqual(self.each(".point", "it.getAttribute('aria-label')"), labels)
 
-def check_missing(page):
-    """A position whose table isn't there names the pair, and what makes it."""
-    text = "XXXXX..OOOOO............"
-    page.go(f"#nine/{text}")
-    page.shows("nine", text)
-    page.notes("There is no table of 5-5")
-    command = page.text("#command")
-    check("what makes it", command, f"./morris build nine 5-5 --classes --into {page.folder}")
+    def test_narrow_window(self):
+        """Nothing sticks out of a window of 360 pixels, in any of the modes."""
+        self.browser.resize(360, 740)
+        self.addCleanup(self.browser.resize, 1200, 900)
+        exercise = "#nine/find/4-3/won/5-99/7"
+        for address in (f"#nine/{LONG}", "#nine/pair/4-3", exercise, "#grid/XXX.OO.O."):
+            with self.subTest(address):
+                self.go(address)
+                self.place()
+                width = self.browser.run("return document.documentElement.scrollWidth;")
+                self.assertLessEqual(width, 360)
 
-
-def tab_to(page, selector):
-    """Goes to an element by the tabulator alone."""
-    for _ in range(200):
-        page.browser.press(TAB)
-        if page.browser.run("return document.activeElement.matches(arguments[0]);", selector):
-            return
-    raise Wrong(f"the tabulator doesn't get to {selector}")
-
-
-def arrow_to(page, point):
-    """Goes from point 0 of Nine to another one by arrows, and gives the way back."""
-    ways = {7: [DOWN], 8: [RIGHT, DOWN, LEFT], 9: [RIGHT, DOWN]}
-    page.browser.press(*ways[point])
-    check("the focus", page.browser.run(FOCUSED), point)
-    return {7: [UP], 8: [RIGHT, UP, LEFT], 9: [UP, LEFT]}[point]
-
-
-def tab_to_corner(page):
-    """Goes to the board by the tabulator, and to its point 0 by arrows."""
-    tab_to(page, ".point")
-    page.browser.press(*[UP] * 6, *[LEFT] * 6)
-    check("the focus", page.browser.run(FOCUSED), 0)
-
-
-def check_keyboard(page):
-    """Sets up, plays and chooses a move with the keyboard alone."""
-    browser = page.browser
-    text = "XX......OOOO............"
-    page.go(f"#nine/{text}")
-    page.shows("nine", text)
-    tab_to(page, "[data-to=setup]")
-    browser.press(ENTER)
-    tab_to_corner(page)
-    for point, key, mark in ((7, "w", "X"), (9, DELETE, "."), (9, "b", "O"), (8, ENTER, "X")):
-        home = arrow_to(page, point)
-        browser.press(key)
-        text = text[:point] + mark + text[point + 1 :]
-        page.shows("nine", text)
-        browser.press(*home)
-        check("the focus", browser.run(FOCUSED), 0)
-    tab_to(page, "[data-to=play]")
-    browser.press(ENTER)
-    page.shows("nine", text)
-    play_by_keys(page, text)
-
-
-def play_by_keys(page, text):
-    """Moves the stone on 7 to 6, takes it back, and makes the first move of the list."""
-    browser, looked = page.browser, page.looked("nine", text)
-    tab_to_corner(page)
-    arrow_to(page, 7)
-    browser.press(ENTER)
-    wanted = {str(it.parts[1]): mark_of(it.value) for it in looked.moves if it.parts[0] == 7}
-    check("where 7 may go", browser.run(MARKS), wanted)
-    browser.press(ESCAPE)
-    check("that it is let go", browser.run(MARKS), {})
-    browser.press(ENTER, DOWN, ENTER)
-    page.has("#played", "it === '7-6'")
-    tab_to(page, "#back")
-    browser.press(ENTER)
-    page.shows("nine", text)
-    tab_to(page, "#moves button")
-    best = browser.run("return document.activeElement.dataset.move;")
-    check("the first of the list", best in looked.best, True)
-    browser.press(ENTER)
-    page.has("#played", "it === arguments[0]", best)
-    name = "/".join(page.shown())
-    browser.wait(name, "return document.activeElement.matches('#moves button');")
-    browser.press(ENTER)
-    page.has("#played", "it.includes(' ')")
-
-
-def check_labels(page):
-    """Each button and field has a name for a screen reader, and each point says what stands on
-    it."""
-    page.go(f"#nine/{LONG}/black")
-    page.shows("nine", LONG, "black")
-    check("what has no name", page.browser.run(NAMELESS), [])
-    stones = {"X": "Black stone", "O": "White stone", ".": "vacant"}
-    wanted = [f"Point {place}: {stones[mark]}" for place, mark in enumerate(LONG)]
-    check("what points say", page.browser.run(LABELS), wanted)
-
-
-def check_narrow(page):
-    """Nothing sticks out of a window of 360 pixels, in any of the modes."""
-    browser = page.browser
-    browser.resize(360, 740)
-    exercise = "#nine/find/4-3/won/5-99/7"
-    for address in (f"#nine/{LONG}", "#nine/pair/4-3", exercise, "#grid/XXX.OO.O."):
-        page.go(address)
-        browser.wait(address, "return document.body.dataset.shown !== '';")
-        width = browser.run("return document.documentElement.scrollWidth;")
-        check(f"how wide {address} is", width <= 360, True)
-    browser.resize(1200, 900)
-
-
-def check_printed(page):
-    """On paper there are the board, the value and all moves, and nothing to press."""
-    browser = page.browser
-    page.go(f"#nine/{LONG}")
-    page.shows("nine", LONG)
-    browser.emulate("print")
-    check("what is printed", browser.run(PRINTED), [True, True, True, False, False, False])
-    browser.emulate()
-
-
-def check_page(room, server, folder):
-    """All of this, and no error on the browser's console. Returns what is to be told of it."""
-    with Browser(room) as browser:
-        page = Page(browser, server, folder)
-        check_first(page)
-        positions = check_positions(page)
-        for part in (check_set_up, check_play, check_best_line, check_drawn_line, check_exercise):
-            part(page)
-        check_other_exercises(page)
-        pairs = check_pairs(page)
-        for part in (check_missing, check_keyboard, check_labels, check_narrow, check_printed):
-            part(page)
-        check("errors on the console", browser.errors(), [])
-        slowest = max(browser.run(MILLISECONDS))
-    return [f"{positions} positions and {pairs} pairs on the page", f"answers in {slowest:.0f} ms"]
+    def test_paper(self):
+        """There are the board, the value and all moves, and nothing to press."""
+        self.visit("nine", LONG)
+        self.browser.emulate("setEmulatedMedia", media="print")
+        self.addCleanup(self.browser.emulate, "setEmulatedMedia", media="")
+        for shown, selectors in ((True, "#board, #value, #moves"), (False, "nav, #steps, .text")):
+            found = self.each(selectors, "it.checkVisibility()")
+            self.assertEqual(found, [shown] * 3, selectors)
