@@ -424,7 +424,7 @@ class Access(Page):
 
     def test_playing_by_keys(self):
         """Moves the stone on 7 to 6, takes it back, and makes the first move of the list."""
-        text = "XX.....XXOOO............"
+        text = ".....O.X..X...O...O.XX.."
         self.visit("nine", text)
         looked = self.looked("nine", text)
         self.focus(".point")
