@@ -1,7 +1,7 @@
 """What is released: the folder release/ of a copy of the repository. It has the archive that
 `make -C embed dist` made, its digest in SHA256SUMS, and BUILT, which says what it was made from.
 gate/release writes them; launcher/archive.sh, for ./morris, launcher/library and embed/packaging/,
-and tests/release/run.py read them."""
+and the suites in tests/release/ read them."""
 
 import hashlib
 import os
@@ -45,23 +45,19 @@ def is_of(path, stamp):
 
 
 def said(*words):
-    done = subprocess.run(words, stdout=subprocess.PIPE, check=True)
-    return done.stdout.decode()
+    """What a command prints, or nothing where it isn't there."""
+    if not is_there(words[0]):
+        return ""
+    return subprocess.run(words, stdout=subprocess.PIPE, check=True).stdout.decode()
 
 
 def kit():
-    """What the kit on the PATH is, by its own words, or nothing where there is none."""
-    return " ".join(said("rt", "version").split()) if is_there("rt") else ""
-
-
-def compiler():
-    """What compiled the C files of embed/."""
-    return said("cc", "--version").splitlines()[0] if is_there("cc") else ""
+    """What the kit on the PATH is, by its own words."""
+    return " ".join(said("rt", "version").split())
 
 
 def read(path):
-    with open(path, "rb") as it:
-        return it.read()
+    return Path(path).read_bytes()
 
 
 def digest(content):
@@ -70,9 +66,8 @@ def digest(content):
 
 def told(root):
     """What BUILT says, by name, or nothing where it isn't there."""
-    if not os.path.exists(f"{root}/{BUILT}"):
-        return {}
-    lines = read(f"{root}/{BUILT}").decode().splitlines()
+    path = Path(root, BUILT)
+    lines = path.read_text(encoding="utf-8").splitlines() if path.exists() else []
     return dict(line.split(" ", 1) for line in lines)
 
 
@@ -136,7 +131,7 @@ def facts(root, archive, built, gate):
     return {
         **stamps(root, archive),
         "kit": kit(),
-        "compiler": compiler(),
+        "compiler": said("cc", "--version").partition("\n")[0],
         "machine": f"{machine.system} {machine.release} {machine.machine}, "
         f"{os.cpu_count()} processors",
         "date": f"{date:%Y-%m-%dT%H:%M:%SZ}",

@@ -15,12 +15,11 @@ that of SOURCE_DATE_EPOCH, which is 1980 where it isn't set.
 """
 
 import hashlib
-import io
 import os
 import shutil
 import subprocess
 import sys
-import tarfile
+import tempfile
 from pathlib import Path
 
 from morris_wheel import EMBED, EPOCH, NAME, explorer, version, write_wheel
@@ -91,41 +90,20 @@ def write_tree(folder, files):
         path.parent.mkdir(parents=True, exist_ok=True)
         path.write_bytes(data)
         path.chmod(0o755 if is_run(name) else 0o644)
-
-
-def member(name):
-    found = tarfile.TarInfo(name)
-    found.mtime = int(os.environ.get("SOURCE_DATE_EPOCH", EPOCH))
-    return found
-
-
-def add_folders(archive, names):
-    """The folders above these names, each before what is in it."""
-    folders = {str(it) for name in names for it in Path(name).parents if str(it) != "."}
-    for name in sorted(folders):
-        found = member(name)
-        found.type, found.mode = tarfile.DIRTYPE, 0o755
-        archive.addfile(found)
+    if f"lib/{SONAME}" in files:
+        (folder / "lib" / "libmorris.so").symlink_to(SONAME)
 
 
 def write_archive(path, top, files):
-    """Writes files, which all get into one folder, into an archive."""
-    packed = io.BytesIO()
-    with tarfile.open(fileobj=packed, mode="w", format=tarfile.GNU_FORMAT) as archive:
-        add_folders(archive, [f"{top}/{name}" for name in files])
-        for name, data in sorted(files.items()):
-            found = member(f"{top}/{name}")
-            found.size, found.mode = len(data), 0o755 if is_run(name) else 0o644
-            archive.addfile(found, io.BytesIO(data))
-        if f"lib/{SONAME}" in files:
-            link = member(f"{top}/lib/libmorris.so")
-            link.type, link.linkname, link.mode = tarfile.SYMTYPE, SONAME, 0o777
-            archive.addfile(link)
-    # (gzip gives the same bytes in all its versions, which Python's module doesn't)
-    how = {"input": packed.getvalue(), "stdout": subprocess.PIPE, "check": True}
+    """Packs files, which all get into one folder, into an archive, by GNU tar and gzip."""
+    how = ["--format=ustar", "--sort=name", "--owner=0", "--group=0", "--numeric-owner"]
+    how += ["--mode=u=rwX,go=rX", f"--mtime=@{os.environ.get('SOURCE_DATE_EPOCH', EPOCH)}"]
     part = path.with_name(f"{path.name}.part")
-    part.write_bytes(subprocess.run(["gzip", "-9n"], **how).stdout)
-    os.replace(part, path)
+    with tempfile.TemporaryDirectory() as room, part.open("wb") as packed:
+        write_tree(Path(room, top), files)
+        words = ["tar", *how, "-I", "gzip -9n", "-C", room, "-c", top]
+        subprocess.run(words, stdout=packed, check=True)
+    part.replace(path)
 
 
 def main():
