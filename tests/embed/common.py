@@ -1,47 +1,130 @@
-"""What the scripts share that run the library of embed/: commands, positions, and answers."""
+"""What the suites share that try the library of embed/: commands, tables, positions, and what is
+compiled once for all tests of a suite."""
 
+import functools
+import os
 import random
 import subprocess
 import sys
+import tempfile
+import unittest
 
+from gate import packing
+from tests.embed.static_library import NO_LIBRARY, core, shared_library, without_static
+from tests.lib.case import Case
+from tests.lib.program import MORRIS, ROOT, count
 from tests.lib.rules import GRID, NINE, positions
-from tests.lib.program import MORRIS, ROOT
+from tests.lib.steps import CPP_COMPILER, NO_CPP_COMPILER, RUST_COMPILER, is_there, missing
+from tests.lib.tables import tables
 
 EMBED = f"{ROOT}/embed"
-# No call takes so many seconds, nor a build of tables or of the library so many.
-MOST_SECONDS = 300
-MOST_OF_A_BUILD = 3600
+# No call takes so many seconds.
+MOST_SECONDS = 600
 # How many positions of the usual board are asked for, and the seed by which they are made up.
 ASKED, SEED = 500, 20261125
 
-runs = 0
-
 
 def run(words, seconds=MOST_SECONDS, **how):
-    """What a command writes. It has to end with status 0."""
-    global runs
-    runs += 1
-    how = {"stdout": subprocess.PIPE, "text": True, "timeout": seconds, **how}
-    done = subprocess.run(words, **how)
+    """What a command prints. It has to end with status 0."""
+    count()
+    how = {"stdout": subprocess.PIPE, "stderr": subprocess.PIPE, "text": True, **how}
+    done = subprocess.run(words, timeout=seconds, **how)
     if done.returncode:
-        sys.exit(f"{' '.join(words)}: ended with status {done.returncode}\n{done.stdout or ''}")
+        said = f"{done.stdout or ''}{done.stderr or ''}"
+        raise AssertionError(f"{' '.join(words)}: ended with status {done.returncode}\n{said}")
     return done.stdout
 
 
-def check(what, found, wanted):
-    if found == wanted:
+def compare(what, found, expected):
+    """Fails with the first line that isn't the expected one."""
+    if found == expected:
         return
-    for place, (a, b) in enumerate(zip(found.splitlines(), wanted.splitlines())):
+    for place, (a, b) in enumerate(zip(found.splitlines(), expected.splitlines())):
         if a != b:
-            sys.exit(f"{what}, line {place + 1}: {a!r}, and not {b!r}")
-    sys.exit(f"{what}: {len(found)} characters, and not {len(wanted)}")
+            raise AssertionError(f"{what}, line {place + 1}: {a!r}, and not {b!r}")
+    raise AssertionError(f"{what}: {len(found)} characters, and not {len(expected)}")
 
 
-def make(out, *words):
-    run(["make", "-s", "-C", EMBED, f"OUT={out}", "WERROR=-Werror", *words], stdout=None)
+def bare(**more):
+    """An environment that knows neither the kit nor this clone, but the compilers."""
+    tools = {it: os.environ[it] for it in ("AR", "CC", "CXX", "RUSTC") if it in os.environ}
+    return {"PATH": "/usr/bin:/bin", "HOME": "/nowhere", "LANG": "C.UTF-8", **tools, **more}
 
 
-# ---- positions
+# ---- what is compiled
+
+
+def need(want):
+    """Leaves out the test that asks for it where this is missing, unless nothing is."""
+    if want:
+        raise unittest.SkipTest(want)
+
+
+@functools.cache
+def _room():
+    return tempfile.TemporaryDirectory(prefix="morris-embed-")
+
+
+def out():
+    """The folder of what is compiled, which is gone when the process ends."""
+    return f"{_room().name}/out"
+
+
+def make(*words, to=None, **how):
+    """What `make` prints that compiles over the proved static library into a folder."""
+    fixed = [f"OUT={to or out()}", f"CORE={core()}", f"PROGRAM={MORRIS}", "WERROR=-Werror"]
+    return run(["make", "-s", "-C", EMBED, *fixed, *words], **how)
+
+
+@functools.cache
+def library():
+    """The shared library, which the module for Python takes from then on."""
+    found = shared_library(out())
+    need(None if found else NO_LIBRARY)
+    os.environ["MORRIS_LIBRARY"] = found
+    return found
+
+
+@functools.cache
+def archive():
+    """The archive that `make dist` makes."""
+    need(without_static())
+    return packing.make_archive(out(), f"CORE={core()}", f"PROGRAM={MORRIS}")
+
+
+class EmbedCase(Case):
+    """A test of the library, which leaves nothing beside the module for Python."""
+
+    def setUp(self):
+        os.environ["PYTHONDONTWRITEBYTECODE"] = "1"
+        if EMBED not in sys.path:
+            sys.path.insert(0, EMBED)
+        library()
+
+
+def lacks(language):
+    """What is missing to compile a caller, or None."""
+    others = {"cpp": None if is_there(CPP_COMPILER[0]) else NO_CPP_COMPILER}
+    return without_static() or {**others, "rust": missing(RUST_COMPILER[0])}.get(language)
+
+
+# ---- positions and tables
+
+
+@functools.cache
+def folders():
+    """Two folders with the tables of Nine up to 4-4 and of all pairs of Grid, in version 1 and in
+    version 2, which nobody changes."""
+    found = []
+    for classes in (False, True):
+        folder = f"{_room().name}/{'classes' if classes else 'full'}"
+        os.mkdir(folder)
+        for board, pair in (("grid", "5-4"), ("grid", "6-3"), ("nine", "4-4")):
+            for it in os.scandir(tables(board, pair, classes)):
+                if it.name.endswith(".nmmt") and not os.path.exists(f"{folder}/{it.name}"):
+                    os.link(it.path, f"{folder}/{it.name}")
+        found.append(folder)
+    return found
 
 
 def text_of(board, position):
@@ -49,36 +132,26 @@ def text_of(board, position):
     return "".join("X" if p in own else "O" if p in other else "." for p in board.points)
 
 
+@functools.cache
 def made_up():
     """Positions of the usual board with up to four stones of either player, by a fixed seed. With
     two own stones the player to move has lost."""
-    chance = random.Random(SEED)
+    chance, found = random.Random(SEED), []
     for _ in range(ASKED):
         own, other = chance.choice([(3, 3), (4, 3), (3, 4), (4, 4), (2, 3), (2, 4)])
         points = chance.sample(NINE.points, own + other)
-        yield text_of(NINE, (set(points[:own]), set(points[own:])))
+        found.append(text_of(NINE, (set(points[:own]), set(points[own:]))))
+    return found
 
 
+@functools.cache
 def all_of_grid():
     return [text_of(GRID, it) for it in positions((3, 3))]
 
 
-# ---- what is answered
-
-
-def looked_up(board, folder, texts):
-    """What `morris lookup --moves` writes."""
-    return run([MORRIS, "lookup", board, "--from", folder, "--moves", *texts])
-
-
-def said_in_python(board, folder, texts):
-    """What the module for Python answers, in the same words."""
-    import morris
-
-    lines = []
-    with morris.open_tables(folder, board) as tables:
-        for text in texts:
-            best = " ".join(str(it.move) for it in tables.best(text))
-            lines.append(f"{text} {tables.value(text)}" + (f": {best}" if best else ""))
-            lines += [f"  {it.move} {it.value}" for it in tables.moves(text)]
-    return "".join(f"{it}\n" for it in lines)
+def best_of(folder, text):
+    """What the examples print of a position: its value, and the first best move if there is one,
+    as `morris lookup` has them."""
+    line = run([MORRIS, "lookup", "nine", "--from", folder, text]).removeprefix(f"{text} ")
+    value, _, moves = line.rstrip("\n").partition(": ")
+    return "".join(f"{it}\n" for it in (value, *moves.split()[:1]))

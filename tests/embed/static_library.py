@@ -6,21 +6,33 @@ import functools
 import os
 import shutil
 import subprocess
-import sys
+from pathlib import Path
 
-from tests.embed.common import EMBED, MOST_OF_A_BUILD, MOST_SECONDS, make, run
 from gate.packing import is_of, mark, sources
-from tests.lib.chosen import BUILT, is_from_proofs, is_released
 from launcher.proving import crates_below
+from tests.lib.chosen import BUILT, is_from_proofs, is_released
 from tests.lib.steps import ARCHIVER, ROOT, is_there, without_c
 
-CRATES = f"{ROOT}/crates"
-MADE = f"{CRATES}/morris_c/out/libmorris_c.a"
+EMBED, CRATES = f"{ROOT}/embed", f"{ROOT}/crates"
+CRATE = "morris_c"
+MADE = f"{CRATES}/{CRATE}/out/lib{CRATE}.a"
 # What `rt ci` writes last of all.
 PRINTED = f"{os.path.dirname(BUILT)}/stdout.by-rattle"
 # What core.sh takes to unpack the library.
 UNPACKING = ("gzip", "tar", "sha256sum", ARCHIVER[0])
 NO_LIBRARY = "a library of these sources, built here or released"
+# No build takes so many seconds.
+MOST_SECONDS = 3600
+
+
+def run(words, **how):
+    """What a command prints that builds something, or finds it."""
+    how = {"stdout": subprocess.PIPE, "text": True, "timeout": MOST_SECONDS, **how}
+    done = subprocess.run(words, **how)
+    if done.returncode:
+        said = f"ended with status {done.returncode}\n{done.stdout}"
+        raise AssertionError(f"{' '.join(words)}: {said}")
+    return done.stdout
 
 
 # ---- as the kit builds it
@@ -28,69 +40,62 @@ NO_LIBRARY = "a library of these sources, built here or released"
 
 def libraries():
     """The libraries that each crate names in crates.txt."""
-    found = {}
-    with open(f"{ROOT}/crates.txt", encoding="utf-8") as file:
-        for line in file:
-            head, colon, names = line.partition("#")[0].partition(":")
-            if colon:
-                found[head.split()[0]] = names.split()
-    return found
-
-
-def newest(folder):
-    """When the newest file of a crate's sources and proofs was written."""
-    parts = [f"{folder}/{part}" for part in ("src", "specs", "proofs")]
-    files = [f"{at}/{name}" for part in parts for at, _, names in os.walk(part) for name in names]
-    return max(os.path.getmtime(it) for it in files)
+    rows = Path(ROOT, "crates.txt").read_text(encoding="utf-8").splitlines()
+    parts = [row.partition("#")[0].partition(":") for row in rows]
+    return {head.split()[0]: names.split() for head, colon, names in parts if colon}
 
 
 def is_as_ci_left_it(crate):
     """Whether the crate's library is there as `rt ci` made it, from the files as they are now, and
     no other work is."""
-    out, folder = f"{CRATES}/{crate}/out", f"{CRATES}/{crate}"
-    made = f"{out}/rlib/{crate}.rlib"
-    kept = [f"{out}/rlib/stamp", f"{out}/incremental"]
-    if not os.path.isdir(made) or any(map(os.path.exists, kept)):
+    folder = Path(CRATES, crate)
+    out = folder / "out"
+    made = out / "rlib" / f"{crate}.rlib"
+    kept = [out / "rlib" / "stamp", out / "incremental"]
+    if not made.is_dir() or any(it.exists() for it in kept):
         return False
-    return newest(folder) < os.path.getmtime(made)
+    files = [it for part in ("src", "specs", "proofs") for it in (folder / part).rglob("*")]
+    return max(it.stat().st_mtime for it in files if it.is_file()) < made.stat().st_mtime
 
 
-def static_library(crate):
-    """Builds a static library, whose crate is proved before it is built.
-
-    `rt lib` takes nothing of what `rt ci` did: it would prove all crates below once more. So where
-    all that they left is what `rt ci` made of them, the compiler is called over that, as `rt ci`
-    calls it for a program. It proves the crate, and builds only what is proved.
-    """
-    if not is_there("rt"):
-        sys.exit("the command rt of the kit, which builds the static library, isn't on the PATH")
+def compile_over_ci():
+    """Builds the static library over what `rt ci` left of the crates below it, by the compiler as
+    `rt ci` calls it for a program. It proves the crate, and builds only what is proved."""
     kit = os.path.dirname(os.path.dirname(os.path.realpath(shutil.which("rt"))))
-    named = libraries()
-    crates = crates_below(crate)
-    folder, archive = f"{CRATES}/{crate}", f"out/lib{crate}.a"
-    os.makedirs(f"{folder}/out", exist_ok=True)
-    if os.path.exists(f"{folder}/{archive}"):
-        os.remove(f"{folder}/{archive}")
-    if not all(map(is_as_ci_left_it, crates)):
-        run(["rt", "lib"], MOST_OF_A_BUILD, cwd=folder)
-        return f"{folder}/{archive}"
-    words = [f"{kit}/bin/rattle", "build", "--crate-name", crate, "src/lib.rt"]
-    for name in ["std", *(it for it in named[crate] if it not in named)]:
+    named, crates = libraries(), crates_below(CRATE)
+    words = [f"{kit}/bin/rattle", "build", "--crate-name", CRATE, "src/lib.rt"]
+    for name in ["std", *(it for it in named[CRATE] if it not in named)]:
         words += ["--extern", f"{name}={kit}/rlibs/{name}.rlib"]
     words += ["-L", f"dependency={kit}/rlibs"]
-    for name in (it for it in named[crate] if it in named):
+    for name in (it for it in named[CRATE] if it in named):
         words += ["--extern", f"{name}={CRATES}/{name}/out/rlib/{name}.rlib"]
     for name in crates:
         words += ["-L", f"dependency={CRATES}/{name}/out/rlib"]
     words += ["--antt-project", f"{kit}/rattle/logic/antt-project.json"]
-    words += ["--logic-built", f"{kit}/logic_built", "--jobs", "2", "--links", f"{crate}="]
+    words += ["--logic-built", f"{kit}/logic_built", "--jobs", "2", "--links", f"{CRATE}="]
     words += ["--crate-type", "staticlib", "--toolchain", f"{kit}/toolchain", "--backend", "llvm"]
-    how = {"cwd": folder, "stderr": subprocess.STDOUT}
-    said = run([*words, "-o", archive], MOST_OF_A_BUILD, **how)
+    words += ["-o", f"out/lib{CRATE}.a"]
+    said = run(words, cwd=f"{CRATES}/{CRATE}", stderr=subprocess.STDOUT)
     verdict = [it for it in said.splitlines() if it.startswith("logic=")][-1:]
     if not verdict or not verdict[0].startswith("logic=proved "):
-        sys.exit(f"the static library isn't proved: {verdict}")
-    return f"{folder}/{archive}"
+        raise AssertionError(f"the static library isn't proved: {verdict}")
+
+
+def build():
+    """Builds the static library by the kit, and notes that it is of these sources.
+
+    `rt lib` takes nothing of what `rt ci` did: it would prove all crates below once more. So it
+    does that only where what they left isn't what `rt ci` made of them.
+    """
+    stamp = sources(ROOT)
+    if not is_there("rt"):
+        raise AssertionError("the command rt of the kit, which builds the library, isn't there")
+    Path(MADE).unlink(missing_ok=True)
+    if all(map(is_as_ci_left_it, crates_below(CRATE))):
+        compile_over_ci()
+    else:
+        run(["rt", "lib"], cwd=f"{CRATES}/{CRATE}")
+    mark(MADE, stamp)
 
 
 # ---- the one that is at hand
@@ -102,28 +107,21 @@ def is_made_since():
     return both and os.path.getmtime(MADE) > os.path.getmtime(PRINTED)
 
 
-def built():
-    """The library as the kit builds it, which is noted to be of these sources."""
-    stamp = sources(ROOT)
-    mark(static_library("morris_c"), stamp)
-    return MADE
-
-
 @functools.cache
 def core():
     """The static library, or None where none of these sources can be had without a proof. In the
     gate it is the one that the kit builds. One process makes it, and others wait for it."""
     os.makedirs(os.path.dirname(MADE), exist_ok=True)
-    with open(f"{os.path.dirname(MADE)}/check.lock", "w") as lock:
+    with open(f"{os.path.dirname(MADE)}/check.lock", "w", encoding="ascii") as lock:
         fcntl.flock(lock, fcntl.LOCK_EX)
         if is_from_proofs():
-            return MADE if is_made_since() else built()
-        if is_of(MADE, sources(ROOT)):
-            return MADE
-        if not is_released() or not is_there(*UNPACKING):
-            return None
-        run([f"{EMBED}/packaging/core.sh"])
-        return MADE
+            if not is_made_since():
+                build()
+        elif not is_of(MADE, sources(ROOT)):
+            if not is_released() or not is_there(*UNPACKING):
+                return None
+            run([f"{EMBED}/packaging/core.sh"])
+    return MADE
 
 
 def without_static():
@@ -136,10 +134,9 @@ def shared_library(out):
     released one; or None."""
     made = f"{out}/libmorris.so"
     if not without_static():
-        make(out, f"CORE={core()}", made)
+        run(["make", "-s", "-C", EMBED, f"OUT={out}", "WERROR=-Werror", f"CORE={core()}", made])
         return made
-    words = ["sh", f"{ROOT}/launcher/library"]
-    done = subprocess.run(words, stdout=subprocess.PIPE, text=True, timeout=MOST_SECONDS)
+    done = subprocess.run(["sh", f"{ROOT}/launcher/library"], stdout=subprocess.PIPE, text=True)
     if done.returncode:
         return None
     how, path = done.stdout.splitlines()
