@@ -2,9 +2,9 @@
 """Makes the parts of documents that come from the sources, the edits and the program's help.
 
     python3 gate/generated.py            compares each part with what it has to be; the status is 1
-                                       where one differs
+                                         where one differs
     python3 gate/generated.py --write    writes them anew; kinds after it are the only ones written,
-                                       which needs no program unless `options` is among them
+                                         which needs no program unless `options` is among them
 
 A part stands between a mark `<!-- from KIND WORDS -->`, of one line or more, and the next line
 `<!-- end -->`; in the man page these are comments of its own form. Kinds:
@@ -17,8 +17,7 @@ A part stands between a mark `<!-- from KIND WORDS -->`, of one line or more, an
     pairs FILE                what bench/pairs put into docs/FILE, as a table
     picture FILE              the same as a picture, by bench/picture.py
     took FILE                 what bench/whole put into docs/FILE, as a table
-    proof-seconds             what the first check of each crate takes, by
-    launcher/proof_seconds.txt
+    proof-seconds             what the first check of each crate takes, by proof_seconds.txt
 """
 
 import csv
@@ -30,15 +29,17 @@ from pathlib import Path
 
 sys.dont_write_bytecode = True
 sys.path.insert(0, os.path.dirname(os.path.dirname(os.path.abspath(__file__))))
+from launcher.proving import ROOT, listed
 from tests.lib.chosen import MOST_SECONDS, program
-from tests.lib.steps import ROOT
 
 sys.path.append(f"{ROOT}/bench")
 import picture as drawing
 
 MARKDOWN = ("<!-- from ", " -->", "<!-- end -->")
 MAN = ('.\\" from ', "", '.\\" end')
-BEGINS = re.compile(r"(?:unfoldable |abbrev |pub |use )")
+# A definition of a file of specs/, with the comment right above it, and the names that it gives.
+BEGINS = r"(?:unfoldable |abbrev |pub |use )"
+ITEM = re.compile(rf"^(?:--.*\n)*{BEGINS}.*(?:\n(?!--|{BEGINS}).*)*", re.MULTILINE)
 NAMES = re.compile(
     r"^\s*(?:unfoldable |abbrev )?(?:pub )?(?:record |data )?([\w-]+)(?: [({]| : )", re.MULTILINE
 )
@@ -63,12 +64,12 @@ def marks_of(path):
     return MAN if path.endswith(".1") else MARKDOWN
 
 
-def parts_of(path, text):
+def parts_of(path):
     """A document in turn as parts: the words that say what each is made from, or None where it was
     written by hand, and its lines. Marks are parts of no words."""
     before, after, end = marks_of(path)
     words, lines, mark = None, [], []
-    for line in text.splitlines():
+    for line in read(path).splitlines():
         if words is not None and line == end:
             yield words, lines
             yield [], [line]
@@ -87,34 +88,12 @@ def parts_of(path, text):
     yield None, lines
 
 
-def items_of(text):
-    """The definitions of a file of specs/, each with the comment right above it."""
-    items, here = [], []
-    for line in text.splitlines():
-        is_comment = line.startswith("--")
-        was_comment = bool(here) and here[-1].startswith("--")
-        # A comment that an empty line follows is none of a definition.
-        begins = (is_comment or BEGINS.match(line)) and not was_comment
-        if begins or was_comment and not line:
-            items.append(here)
-            here = []
-        here.append(line)
-    return ["\n".join(it).strip() for it in [*items, here]]
-
-
-def names_of(item):
-    """The names that a definition gives."""
-    code = "\n".join(it for it in item.splitlines() if not it.startswith("--"))
-    return NAMES.findall(code)
-
-
 def definitions(_, file, *names):
     """The definitions of these names in a file of specs/, in the order of the file."""
-    items = [(it, names_of(it)) for it in items_of(read(f"crates/{file}"))]
-    chosen = [it for it, given in items if set(given) & set(names)]
-    given = {it for _, found in items for it in found}
-    if set(names) - given:
-        sys.exit(f"crates/{file}: doesn't define {sorted(set(names) - given)}")
+    items = [(it.strip(), {*NAMES.findall(it)}) for it in ITEM.findall(read(f"crates/{file}"))]
+    if lacking := {*names}.difference(*(given for _, given in items)):
+        sys.exit(f"crates/{file}: doesn't define {sorted(lacking)}")
+    chosen = [it for it, given in items if given & {*names}]
     return ["```text", *"\n\n".join(chosen).splitlines(), "```"]
 
 
@@ -135,8 +114,7 @@ def edits_of(crate):
 
 def crates_with_edits():
     """The crates that have edits, in the order of crates.txt."""
-    listed = re.findall(r"^(\w+)", read("crates.txt"), re.MULTILINE)
-    return [crate for crate in listed if any(True for _ in edits_of(crate))]
+    return [crate for crate in listed() if any(True for _ in edits_of(crate))]
 
 
 def edits(_):
@@ -234,24 +212,15 @@ def proof_seconds(_):
     return [*made, f"| all | {sum(int(seconds) for _, seconds in rows):,} |"]
 
 
-MAKERS = {
-    "definitions": definitions,
-    "source": source,
-    "edits": edits,
-    "edit-counts": edit_counts,
-    "options": options,
-    "pairs": pairs,
-    "picture": picture,
-    "took": took,
-    "proof-seconds": proof_seconds,
-}
+KINDS = (definitions, source, edits, edit_counts, options, pairs, picture, took, proof_seconds)
+MAKERS = {it.__name__.replace("_", "-"): it for it in KINDS}
 
 
-def made_anew(path, text, kinds):
+def made_anew(path, kinds=MAKERS):
     """A document with its generated parts of these kinds as they have to be, and how many there
     are."""
     lines, count = [], 0
-    for words, found in parts_of(path, text):
+    for words, found in parts_of(path):
         if words and words[0] in kinds:
             found = MAKERS[words[0]](path, *words[1:])
             count += 1
@@ -259,29 +228,18 @@ def made_anew(path, text, kinds):
     return "".join(f"{line}\n" for line in lines), count
 
 
-def hold(writes=False, kinds=MAKERS):
-    """Holds the parts of these kinds in the documents against what is made of the sources, or
-    writes it into them. Gives how many parts there are."""
-    wrong, parts = [], 0
-    for path in documents():
-        text = read(path)
-        wanted, count = made_anew(path, text, kinds)
-        parts += count
-        if wanted != text:
-            wrong.append(path)
-            if writes:
-                Path(ROOT, path).write_text(wanted, encoding="utf-8")
-    if wrong and not writes:
-        said = "differs from what is made of the sources: python3 gate/generated.py --write"
-        sys.exit(f"{', '.join(wrong)}: {said}")
-    return parts
-
-
 def main():
     writes, kinds = sys.argv[1:2] == ["--write"], sys.argv[2:]
     if sys.argv[1:] and not writes or not MAKERS.keys() >= {*kinds}:
         sys.exit(__doc__)
-    print(f"{hold(writes, kinds or MAKERS)} parts of documents are made of the sources")
+    made = {path: made_anew(path, kinds or MAKERS) for path in documents()}
+    differing = [path for path, (text, _) in made.items() if text != read(path)]
+    if differing and not writes:
+        said = "differs from what is made of the sources: python3 gate/generated.py --write"
+        sys.exit(f"{', '.join(differing)}: {said}")
+    for path in differing:
+        Path(ROOT, path).write_text(made[path][0], encoding="utf-8")
+    print(f"{sum(count for _, count in made.values())} parts of documents are made of the sources")
 
 
 if __name__ == "__main__":
