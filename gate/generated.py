@@ -35,8 +35,11 @@ from tests.lib.chosen import MOST_SECONDS, program
 sys.path.append(f"{ROOT}/bench")
 import picture as drawing
 
-MARKDOWN = ("<!-- from ", " -->", "<!-- end -->")
-MAN = ('.\\" from ', "", '.\\" end')
+# A part with its marks, the words of the first one, and what stands between, in a document and in
+# the man page.
+MARKDOWN = re.compile(r"^(<!-- from (.*?) -->\n)(.*?)^(<!-- end -->\n)", re.MULTILINE | re.DOTALL)
+MAN = re.compile(r'^(\.\\" from (.*?)\n)(.*?)^(\.\\" end\n)', re.MULTILINE | re.DOTALL)
+BEGUN = re.compile(r'^(?:<!--|\.\\") from .*', re.MULTILINE)
 # A definition of a file of specs/, with the comment right above it, and the names that it gives.
 BEGINS = r"(?:unfoldable |abbrev |pub |use )"
 ITEM = re.compile(rf"^(?:--.*\n)*{BEGINS}.*(?:\n(?!--|{BEGINS}).*)*", re.MULTILINE)
@@ -59,33 +62,14 @@ def read(path):
     return Path(ROOT, path).read_text(encoding="utf-8")
 
 
-def marks_of(path):
-    """How a generated part begins and ends in a document."""
-    return MAN if path.endswith(".1") else MARKDOWN
-
-
 def parts_of(path):
-    """A document in turn as parts: the words that say what each is made from, or None where it was
-    written by hand, and its lines. Marks are parts of no words."""
-    before, after, end = marks_of(path)
-    words, lines, mark = None, [], []
-    for line in read(path).splitlines():
-        if words is not None and line == end:
-            yield words, lines
-            yield [], [line]
-            words, lines = None, []
-        elif words is None and (mark or line.startswith(before)):
-            mark.append(line)
-            if line.endswith(after):
-                yield None, lines
-                yield [], mark
-                words = " ".join(mark)[len(before) :].removesuffix(after).split()
-                lines, mark = [], []
-        else:
-            lines.append(line)
-    if words is not None or mark:
-        sys.exit(f"{path}: what is made from {words or mark} has no end")
-    yield None, lines
+    """The generated parts of a document, as matches."""
+    text = read(path)
+    parts = list((MAN if path.endswith(".1") else MARKDOWN).finditer(text))
+    for mark in BEGUN.finditer(text):
+        if mark.start() not in [it.start() for it in parts]:
+            sys.exit(f"{path}: {mark[0]} has no end")
+    return parts
 
 
 def definitions(_, file, *names):
@@ -155,7 +139,7 @@ def options_of(command):
 def options(path, command):
     """The options of a command, as a table or as items of the man page."""
     rows = list(options_of(command))
-    if marks_of(path) is MARKDOWN:
+    if not path.endswith(".1"):
         made = ["| option | what it does | if left out |", "|---|---|---|"]
         for name, value, does, default in rows:
             shown = f"{name} {value}" if value else name
@@ -219,13 +203,14 @@ MAKERS = {it.__name__.replace("_", "-"): it for it in KINDS}
 def made_anew(path, kinds=MAKERS):
     """A document with its generated parts of these kinds as they have to be, and how many there
     are."""
-    lines, count = [], 0
-    for words, found in parts_of(path):
-        if words and words[0] in kinds:
-            found = MAKERS[words[0]](path, *words[1:])
-            count += 1
-        lines += found
-    return "".join(f"{line}\n" for line in lines), count
+    text, made, count, place = read(path), "", 0, 0
+    for part in parts_of(path):
+        kind, *words = part[2].split()
+        if kind in kinds:
+            lines = MAKERS[kind](path, *words)
+            made += text[place : part.start(3)] + "".join(f"{line}\n" for line in lines)
+            place, count = part.end(3), count + 1
+    return made + text[place:], count
 
 
 def main():

@@ -140,7 +140,7 @@ class Program(Case):
         listed = self.shown(["--help"]).split("Commands:\n")[1].split("\n\n")[0]
         commands = sorted({it.split()[0] for it in listed.splitlines()} - {"help"})
         for path in ("docs/COMMANDS.md", "docs/morris.1"):
-            parts = [words for words, _ in parts_of(path) if words]
+            parts = [it[2].split() for it in parts_of(path)]
             with self.subTest(path):
                 self.assertEqual(sorted(it[1] for it in parts if it[0] == "options"), commands)
 
