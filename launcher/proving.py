@@ -39,15 +39,22 @@ LIBC, PR_SET_PDEATHSIG = ctypes.CDLL(None), 1
 
 
 @functools.cache
-def listed():
-    """The repository's crates in the order of crates.txt, each with those that it stands on."""
+def libraries():
+    """The repository's crates in the order of crates.txt, each with the libraries that it names
+    there, those of the kit too."""
     rows = {}
     with open(f"{ROOT}/crates.txt", encoding="utf-8") as it:
         for line in it:
             name, _, uses = line.partition("#")[0].partition(":")
             if name.split():
                 rows[name.split()[0]] = uses.replace(",", " ").split()
-    return {name: [it for it in uses if it in rows] for name, uses in rows.items()}
+    return rows
+
+
+@functools.cache
+def listed():
+    """The repository's crates in the order of crates.txt, each with those that it stands on."""
+    return {name: [it for it in uses if it in libraries()] for name, uses in libraries().items()}
 
 
 @functools.cache

@@ -9,7 +9,7 @@ import subprocess
 from pathlib import Path
 
 from gate.packing import is_of, mark, sources
-from launcher.proving import crates_below
+from launcher.proving import crates_below, libraries
 from tests.lib.chosen import BUILT, is_from_proofs, is_released
 from tests.lib.steps import ARCHIVER, ROOT, is_there, without_c
 
@@ -36,13 +36,6 @@ def run(words, **how):
 
 
 # ---- as the kit builds it
-
-
-def libraries():
-    """The libraries that each crate names in crates.txt."""
-    rows = Path(ROOT, "crates.txt").read_text(encoding="utf-8").splitlines()
-    parts = [row.partition("#")[0].partition(":") for row in rows]
-    return {head.split()[0]: names.split() for head, colon, names in parts if colon}
 
 
 def is_as_ci_left_it(crate):
