@@ -101,25 +101,30 @@ def crates_with_edits():
     return [crate for crate in listed() if any(True for _ in edits_of(crate))]
 
 
+def table(head, rows):
+    """The lines of a table with this head, such as "crate | seconds", and with these rows."""
+    rule = "---|" * (head.count("|") + 1)
+    return [f"| {head} |", f"|{rule}", *(f"| {' | '.join(map(str, row))} |" for row in rows)]
+
+
 def edits(_):
     """A table of the edits of each crate."""
     made = []
     for crate in crates_with_edits():
-        made += ["", f"## `{crate}`", "", "| edit | breaks | tried by |", "|---|---|---|"]
-        made += [f"| `{name}` | {breaks} | {tried} |" for name, breaks, tried in edits_of(crate)]
+        rows = [(f"`{name}`", breaks, tried) for name, breaks, tried in edits_of(crate)]
+        made += ["", f"## `{crate}`", "", *table("edit | breaks | tried by", rows)]
     return [*made, ""]
 
 
 def edit_counts(_):
     """How many edits each crate has, and how many there are in all."""
-    rows = {
-        crate: [sum(tried == it for _, _, tried in edits_of(crate)) for it in FOLDERS.values()]
-        for crate in crates_with_edits()
-    }
-    made = ["| crate | tried by the gate | at a release |", "|---|---|---|"]
-    made += [f"| `{crate}` | {here} | {later} |" for crate, (here, later) in rows.items()]
-    here, later = (sum(it) for it in zip(*rows.values()))
-    return [*made, f"| all | {here} | {later} |"]
+    rows = {}
+    for crate in crates_with_edits():
+        tried = [it for _, _, it in edits_of(crate)]
+        rows[f"`{crate}`"] = [tried.count(it) for it in FOLDERS.values()]
+    rows["all"] = [sum(it) for it in zip(*rows.values())]
+    rows = [(name, *counts) for name, counts in rows.items()]
+    return table("crate | tried by the gate | at a release", rows)
 
 
 def options_of(command):
@@ -133,18 +138,15 @@ def options_of(command):
         if found is None:
             sys.exit(f"the help of {command} has a line of another form: {line!r}")
         if found[1] != "--help":
-            yield found.groups()
+            yield found.groups(default="")
 
 
 def options(path, command):
     """The options of a command, as a table or as items of the man page."""
     rows = list(options_of(command))
     if not path.endswith(".1"):
-        made = ["| option | what it does | if left out |", "|---|---|---|"]
-        for name, value, does, default in rows:
-            shown = f"{name} {value}" if value else name
-            made.append(f"| `{shown}` | {does} | {default or ''} |")
-        return made
+        shown = [(f"`{name} {value}".rstrip() + "`", *rest) for name, value, *rest in rows]
+        return table("option | what it does | if left out", shown)
     made = []
     for name, value, does, default in rows:
         escaped = name.replace("-", "\\-")
@@ -155,14 +157,12 @@ def options(path, command):
 
 def pairs(_, file):
     """What was found of each pair, as a table."""
-    rows = csv.DictReader(read(f"docs/{file}").splitlines())
-    made = ["| pair | deepest win | deepest loss | won | lost | drawn | SHA-256 |"]
-    made += ["|---|---|---|---|---|---|---|"]
-    for row in rows:
-        counts = " | ".join(f"{int(row[it]):,}" for it in ("won", "lost", "drawn"))
-        depths = f"{row['deepest win']} | {row['deepest loss']}"
-        made.append(f"| {row['pair']} | {depths} | {counts} | `{row['sha256']}` |")
-    return made
+    rows = []
+    for row in csv.DictReader(read(f"docs/{file}").splitlines()):
+        counts = [f"{int(row[it]):,}" for it in ("won", "lost", "drawn")]
+        depths = row["deepest win"], row["deepest loss"]
+        rows.append((row["pair"], *depths, *counts, f"`{row['sha256']}`"))
+    return table("pair | deepest win | deepest loss | won | lost | drawn | SHA-256", rows)
 
 
 def picture(_, file):
@@ -175,25 +175,24 @@ def took(_, file):
     rows = list(csv.DictReader(read(f"docs/{file}").splitlines()))
     found = {it: [float(row[it]) for row in rows] for it in rows[0] if it != "pair"}
     whole = {it: max(has) if it.endswith("bytes") else sum(has) for it, has in found.items()}
-    made = ["| pair | build | processors | memory | verification | processors | memory |"]
-    made += ["|---|---|---|---|---|---|---|"]
-    for row in [*rows, {"pair": "all", **whole}]:
-        shown = [row["pair"]]
-        for name in found:
-            is_size, value = name.endswith("bytes"), float(row[name])
-            shown.append(f"{value / 1e6:,.0f} MB" if is_size else f"{value:,.1f} s")
-        made.append(f"| {' | '.join(shown)} |")
-    return made
+    head = "pair | build | processors | memory | verification | processors | memory"
+
+    def shown(name, value):
+        is_size = name.endswith("bytes")
+        return f"{float(value) / 1e6:,.0f} MB" if is_size else f"{float(value):,.1f} s"
+
+    rows = [*rows, {"pair": "all", **whole}]
+    return table(head, ([row["pair"], *(shown(it, row[it]) for it in found)] for row in rows))
 
 
 def proof_seconds(_):
     """What the first check of each crate takes, as a table, and of all together."""
     lines = read("launcher/proof_seconds.txt").splitlines()
     head = [it.removeprefix("# ") for it in lines if it.startswith("#")]
-    rows = [it.split() for it in lines if not it.startswith("#")]
-    made = [*head, "", "| crate | processor seconds |", "|---|---|"]
-    made += [f"| `{crate}` | {int(seconds):,} |" for crate, seconds in rows]
-    return [*made, f"| all | {sum(int(seconds) for _, seconds in rows):,} |"]
+    seconds = {it.split()[0]: int(it.split()[1]) for it in lines if not it.startswith("#")}
+    rows = [(f"`{crate}`", f"{it:,}") for crate, it in seconds.items()]
+    rows.append(("all", f"{sum(seconds.values()):,}"))
+    return [*head, "", *table("crate | processor seconds", rows)]
 
 
 KINDS = (definitions, source, edits, edit_counts, options, pairs, picture, took, proof_seconds)

@@ -2,8 +2,7 @@
 at a time where there are processors and memory for them.
 
     python3 launcher/proving.py NAME LOG PARENT    builds a program with all that it stands on, for
-    the
-                                             process PARENT, ./morris, which called it
+                                                   the process PARENT, ./morris, which called it
 
 It says on standard error which crate it is at, and about how long all will take; what rt says goes
 to the file LOG, and that of a crate that isn't proved stands last there. Where PARENT ends before,
@@ -275,7 +274,7 @@ class Proof:
             return self.said.read()
 
 
-def prove(crates, tell, log=None, is_wanted=lambda: True):
+def prove(crates, tell, log, is_wanted):
     """Builds these crates, among which are all that they stand on, the lowest first. Tells which it
     is at, writes what rt says to a file, and gives whether all are built. Exits where that isn't
     wanted any more."""
@@ -287,8 +286,8 @@ def prove(crates, tell, log=None, is_wanted=lambda: True):
                 left = f", about {proofs.minutes_left():.0f} minutes left"
                 tell(f"proving crate {number} of {len(crates)}: {crate}{left}")
             crate, status, said = proofs.ended()
-            (log or sys.stdout.buffer).write(said)
-            (log or sys.stdout.buffer).flush()
+            log.write(said)
+            log.flush()
             if status:
                 tell(f"{crate} is not proved")
                 return False
