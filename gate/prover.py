@@ -121,8 +121,6 @@ def functions_of_rt():
     loader = importlib.machinery.SourceFileLoader("rt", os.path.realpath(path))
     rt = importlib.util.module_from_spec(importlib.util.spec_from_loader("rt", loader))
     loader.exec_module(rt)
-    # It is asked for often, also for those below, and nothing changes meanwhile.
-    rt.rtlib.Crate.stamp = functools.cache(rt.rtlib.Crate.stamp)
     # Its first call sets how signals are handled, which the main thread alone may.
     rt.rtlib.guarded()
     return rt
@@ -135,10 +133,13 @@ class Prover:
         self.rt = functions_of_rt()
         self.crates = {it.name: it for it in self.rt.rtlib.crates_below(ROOT)}
 
+    # (both read all sources below a crate, more than once, and nothing changes meanwhile)
+    @functools.cache
     def is_ready(self, crate):
         """Whether a library is built from these sources, and what was proved of it is kept."""
         return self.crates[crate].is_built() and self.crates[crate].has_kept()
 
+    @functools.cache
     def stamp(self, crate):
         """A checksum of the kit, of a crate and of those that it stands on."""
         return self.crates[crate].stamp()
