@@ -1,62 +1,28 @@
-"""How a step of ./check ends, and which tools of the machine it can do without.
+"""How a suite of ./check ends, and which tools of the machine it can do without.
 
-A step ends with status 0 where all of its runs were right, with 1 where one wasn't, and with 77
-where it could make none. The last line that it prints has a fixed form, which ./check reads: how
-many runs it made, and how many it left out for want of what, such as
-
-    embed: 161 runs, 109 left out for want of a C compiler (CC=cc)
-
-A suite of test cases says how many tests it made too, and how many tests it left out:
+A suite ends with status 0 where all of its tests passed, with 1 where one failed, and with 77 where
+it could make none. The last line that it prints has a fixed form, which ./check reads: how many
+tests and runs it made, and how many tests it left out for want of what, such as
 
     cli.table_files: 12 tests, 20514 runs, 2 left out for want of a C compiler (CC=cc)
-
-Where runs go on until one meets what they look for, nobody knows how many there would have been;
-the line then says `at least`.
 """
 
 import importlib.util
 import os
 import re
 import shutil
-import sys
 from pathlib import Path
-from typing import NamedTuple, NoReturn, Optional
+from typing import NamedTuple, Optional
 
 ROOT = str(Path(__file__).resolve().parents[2])
 PASSED, FAILED, SKIPPED = 0, 1, 77
-# How many runs were left out for want of what, and whether there may have been more of them.
-left_out: dict[str, tuple[int, bool]] = {}
-
-
-def leave_out(count: int, want: str, or_more: bool = False) -> None:
-    """Notes that so many runs can't be made here, and what is missing for them."""
-    before, before_or_more = left_out.get(want, (0, False))
-    left_out[want] = (before + count, before_or_more or or_more)
-
-
-def can(runs: int, want: Optional[str]) -> bool:
-    """Whether so many runs can be made, for which this is missing, or nothing is. If they can't,
-    they are left out."""
-    if want:
-        leave_out(runs, want)
-    return want is None
-
-
-def conclude(runs: int) -> NoReturn:
-    """Ends the step, whose runs were all right."""
-    line = f"{Path(sys.argv[0]).parent.name}: {runs} runs"
-    for want, (count, or_more) in left_out.items():
-        line += f", {'at least ' if or_more else ''}{count} left out for want of {want}"
-    print(line)
-    sys.exit(PASSED if runs else SKIPPED)
 
 
 class Ended(NamedTuple):
-    """What the last line of a step says."""
+    """What the last line of a suite says."""
 
     name: str
-    # How many tests it made, where it is a suite, and how many runs.
-    tests: Optional[int]
+    tests: int
     runs: int
     # What was left out for want of what, as the line says it, or an empty text.
     left_out: str
@@ -64,12 +30,11 @@ class Ended(NamedTuple):
 
 def read_end(line: str) -> Optional[Ended]:
     """What such a line says, or None where it is another line."""
-    part = r"(?:at least )?[1-9]\d* left out for want of .+?"
-    found = re.fullmatch(rf"([\w.]+): (?:(\d+) tests, )?(\d+) runs((?:, {part})*)", line)
+    part = r"[1-9]\d* left out for want of .+?"
+    found = re.fullmatch(rf"([\w.]+): (\d+) tests, (\d+) runs((?:, {part})*)", line)
     if not found:
         return None
-    tests = None if found[2] is None else int(found[2])
-    return Ended(found[1], tests, int(found[3]), found[4].removeprefix(", "))
+    return Ended(found[1], int(found[2]), int(found[3]), found[4].removeprefix(", "))
 
 
 # ---- tools
