@@ -186,12 +186,12 @@ class Sources(Case):
                 count(parts)
 
     def test_each_file_that_is_named_is_there(self):
-        """But for those of any crate or edit, `NAME`."""
+        """But for those of any crate or edit, `NAME`, and for what is built, `out`."""
         for path in documents():
             for name in NAMED.findall(read(path)):
                 with self.subTest(path, name=name):
                     there = [Path(ROOT, it).exists() for it in (name, f"docs/{name}")]
-                    self.assertTrue("NAME" in name or any(there))
+                    self.assertTrue("NAME" in name or name.endswith("/out") or any(there))
 
     def test_each_contract_that_is_named_is_there(self):
         """Each function, clause and definition in the second column of a table is a word of the
