@@ -2,13 +2,32 @@
 shows with what `morris lookup` and `morris stats` print."""
 
 import functools
+import os
+import shutil
+import sys
 import unittest
 from collections import Counter
 
-from tests.explorer.browser import DELETE, DOWN, ENTER, ESCAPE, LEFT, RIGHT, TAB, UP, Browser
-from tests.explorer.browser import is_installed
 from tests.explorer.common import PAIRS, Explored, all_of_grid, fields, made_up, points_of
 from tests.lib.program import count
+from tests.lib.steps import missing
+
+# (Debian's package has Selenium here, whichever Python runs this)
+sys.path.append("/usr/lib/python3/dist-packages")
+try:
+    from selenium import webdriver
+    from selenium.webdriver.chrome.service import Service
+    from selenium.webdriver.common.keys import Keys
+    from selenium.webdriver.support.wait import WebDriverWait
+except ImportError:
+    webdriver = None
+
+# A page may change its address as often as it likes.
+ARGUMENTS = ["--headless=new", "--disable-gpu", "--disable-dev-shm-usage", "--no-first-run"]
+ARGUMENTS += ["--disable-background-networking", "--disable-component-update", "--no-proxy-server"]
+ARGUMENTS += ["--disable-ipc-flooding-protection"] + ["--no-sandbox"] * (os.geteuid() == 0)
+# How many seconds something is waited for, and how many are between two looks at it.
+MOST_OF_A_WAIT, BETWEEN = 20, 0.02
 
 # How many positions of each board are shown, and by how many stones.
 ASKED = 200
@@ -58,9 +77,14 @@ def marks_of(values, place):
 @functools.cache
 def opened():
     """The browser, which ends with the suite."""
-    browser = Browser()
-    unittest.addModuleCleanup(browser.end)
-    browser.begin()
+    options = webdriver.ChromeOptions()
+    options.binary_location = shutil.which("chromium")
+    options.set_capability("goog:loggingPrefs", {"browser": "ALL"})
+    options.ignore_local_proxy_environment_variables()
+    for it in ARGUMENTS:
+        options.add_argument(it)
+    browser = webdriver.Chrome(service=Service(shutil.which("chromedriver")), options=options)
+    unittest.addModuleCleanup(browser.quit)
     return browser
 
 
@@ -68,21 +92,41 @@ class Page(Explored):
     """A test case of the page, which is opened anew for each test."""
 
     def setUp(self):
-        if not is_installed():
-            self.skipTest("chromium and chromedriver")
+        if lacking := missing("chromium", "chromedriver") if webdriver else "Selenium for Python":
+            self.skipTest(lacking)
         super().setUp()
         self.browser = opened()
-        self.browser.open("about:blank")
-        self.browser.errors()
-        self.browser.open(self.server.url)
-        self.addCleanup(lambda: self.assertEqual(self.browser.errors(), []))
+        self.run_script = self.browser.execute_script
+        self.browser.get("about:blank")
+        self.errors()
+        self.resize(1200)
+        self.browser.get(self.server.url)
+        self.addCleanup(lambda: self.assertEqual(self.errors(), []))
+
+    def errors(self):
+        """What the console has had of errors since it was asked before."""
+        told = self.browser.get_log("browser")
+        return [it["message"] for it in told if it["level"] == "SEVERE"]
+
+    def emulate(self, what, **words):
+        """Shows the page as in a window of another size, or for a medium such as `print`."""
+        self.browser.execute_cdp_cmd(f"Emulation.{what}", words)
+
+    def resize(self, width):
+        size = {"width": width, "height": 900, "deviceScaleFactor": 1, "mobile": False}
+        self.emulate("setDeviceMetricsOverride", **size)
 
     # ---- what is on the page
+
+    def wait(self, what, script, *words):
+        """Waits until a script returns something that is true, and gives it."""
+        found = lambda browser: browser.execute_script(script, *words)
+        return WebDriverWait(self.browser, MOST_OF_A_WAIT, BETWEEN).until(found, what)
 
     def each(self, selector, expression):
         """The value of an expression for each element `it`."""
         script = f"return [...document.querySelectorAll('{selector}')].map((it) => {expression});"
-        return self.browser.run(script)
+        return self.run_script(script)
 
     def text(self, selector):
         return self.each(selector, "it.textContent")[0]
@@ -91,7 +135,7 @@ class Page(Explored):
         """Waits until the text `it` of an element is like that, and gives it."""
         script = f"const it = document.querySelector('{selector}').textContent; "
         script += f"return {condition} ? it || ' ' : null;"
-        return self.browser.wait(f"{selector}: {condition} {words}", script, *words)
+        return self.wait(f"{selector}: {condition} {words}", script, *words)
 
     def notes(self, words):
         self.has("#note", "it.includes(arguments[0])", words)
@@ -111,16 +155,16 @@ class Page(Explored):
         if parts:
             count()
             name = "/".join(parts if len(parts) > 2 else (*parts, "white"))
-            self.browser.wait(f"to show {name}", f"{SHOWN} return it === arguments[0];", name)
+            self.wait(f"to show {name}", f"{SHOWN} return it === arguments[0];", name)
 
     def leaves(self, *parts):
         """Waits until the answer for another position is on the page."""
         script = f"{SHOWN} return it && it !== arguments[0];"
-        self.browser.wait(f"to leave {parts}", script, "/".join(parts))
+        self.wait(f"to leave {parts}", script, "/".join(parts))
 
     def place(self):
         """The board, text and side to move of the position that is on the page."""
-        return self.browser.wait("a position", f"{SHOWN} return it;").split("/")
+        return self.wait("a position", f"{SHOWN} return it;").split("/")
 
     def looked(self, board, text):
         return self.looked_up(board, [text])[text]
@@ -140,7 +184,7 @@ class Page(Explored):
 
     def go(self, address):
         """Changes what stands behind the page's address."""
-        self.browser.run("location.hash = arguments[0];", address)
+        self.run_script("location.hash = arguments[0];", address)
 
     def visit(self, *parts):
         """Goes to a position, or to a pair, and waits until it is on the page."""
@@ -149,12 +193,12 @@ class Page(Explored):
 
     def click(self, selector, *shown):
         """Clicks on an element, and waits for what is to be shown then, if that is given."""
-        self.browser.click(selector)
+        self.browser.find_element("css selector", selector).click()
         self.shows(*shown)
 
     def keys(self, *keys, shown=()):
-        """Presses keys, in the same way."""
-        self.browser.press(*keys)
+        """Presses keys one after the other, wherever the focus is, and waits in the same way."""
+        webdriver.ActionChains(self.browser).send_keys(*keys).perform()
         self.shows(*shown)
 
     def press(self, *points):
@@ -181,8 +225,8 @@ class Page(Explored):
     def focus(self, selector):
         """Goes to an element by the tabulator alone."""
         for _ in range(200):
-            self.keys(TAB)
-            if self.browser.run("return document.activeElement.matches(arguments[0]);", selector):
+            self.keys(Keys.TAB)
+            if self.run_script("return document.activeElement.matches(arguments[0]);", selector):
                 return
         self.fail(f"the tabulator doesn't get to {selector}")
 
@@ -227,12 +271,12 @@ class Positions(Page):
         self.check("nine", LONG.translate(str.maketrans("XO", "OX")), "black")
         self.click("#swap", "nine", LONG, "black")
         text = "XX......OOO............X"
-        self.browser.run(PASTE, f" {text.lower()}\n")
+        self.run_script(PASTE, f" {text.lower()}\n")
         self.check("nine", text)
-        self.browser.run("document.querySelector('#text').select();")
-        self.keys(*"XXX.OO.O.", ENTER, shown=("grid", "XXX.OO.O."))
-        self.browser.run("document.querySelector('#text').select();")
-        self.keys(*"XXX.OO.", ENTER)
+        self.run_script("document.querySelector('#text').select();")
+        self.keys(*"XXX.OO.O.", Keys.ENTER, shown=("grid", "XXX.OO.O."))
+        self.run_script("document.querySelector('#text').select();")
+        self.keys(*"XXX.OO.", Keys.ENTER)
         self.notes("not 7")
 
     def test_playing(self):
@@ -249,8 +293,9 @@ class Positions(Page):
         self.click("#back", "nine", text)
         self.click("#forward", *second)
         first = self.listed()[0][0]
-        self.browser.point_at(f"[data-move='{first}']")
-        self.browser.wait("an arrow", "return document.querySelector('.arrow line') !== null;")
+        listed = self.browser.find_element("css selector", f"[data-move='{first}']")
+        webdriver.ActionChains(self.browser).move_to_element(listed).perform()
+        self.wait("an arrow", "return document.querySelector('.arrow line') !== null;")
         self.click_move(first)
         self.has("#played", "it.includes(' ')")
         self.click("#start", "nine", text)
@@ -265,10 +310,10 @@ class Positions(Page):
         self.assertEqual(self.text("#played"), " ".join(moves))
         self.assertTrue(self.text("#value").startswith("White has won"))
         self.click("#back", "nine", texts[-2], "white")
-        address = self.browser.run("return location.href;")
-        self.browser.reload()
+        address = self.browser.current_url
+        self.browser.refresh()
         self.check("nine", texts[-2], "white")
-        self.assertEqual(self.browser.run("return location.href;"), address)
+        self.assertEqual(self.browser.current_url, address)
 
     def test_best_line_of_a_draw(self):
         """It ends where a position repeats, or where it is stopped."""
@@ -351,7 +396,7 @@ class Exercises(Page):
         text, depth, moves = self.exercise("nine", "4-3/won/5-19", ("draw", "lost"), "won in 2")
         self.assertIn(depth, range(5, 20))
         self.hides(text)
-        self.browser.reload()
+        self.browser.refresh()
         self.hides(text)
         (wrong, _), (slow, slower) = moves
         self.choose(wrong)
@@ -407,20 +452,20 @@ class Access(Page):
         text = "XX......OOOO............"
         self.visit("nine", text)
         self.focus("[data-to=setup]")
-        self.keys(ENTER)
+        self.keys(Keys.ENTER)
         self.focus(".point")
-        self.arrows(0, *[UP] * 6, *[LEFT] * 6)
+        self.arrows(0, *[Keys.UP] * 6, *[Keys.LEFT] * 6)
         for point, way, key, mark in (
-            (7, [DOWN], "w", "X"),
-            (9, [UP, RIGHT, DOWN], DELETE, "."),
+            (7, [Keys.DOWN], "w", "X"),
+            (9, [Keys.UP, Keys.RIGHT, Keys.DOWN], Keys.DELETE, "."),
             (9, [], "b", "O"),
-            (8, [LEFT], ENTER, "X"),
+            (8, [Keys.LEFT], Keys.ENTER, "X"),
         ):
             self.arrows(point, *way)
             text = text[:point] + mark + text[point + 1 :]
             self.keys(key, shown=("nine", text))
         self.focus("[data-to=play]")
-        self.keys(ENTER, shown=("nine", text))
+        self.keys(Keys.ENTER, shown=("nine", text))
 
     def test_playing_by_keys(self):
         """Moves the stone on 7 to 6, takes it back, and makes the first move of the list."""
@@ -428,24 +473,24 @@ class Access(Page):
         self.visit("nine", text)
         looked = self.looked("nine", text)
         self.focus(".point")
-        self.arrows(7, *[UP] * 6, *[LEFT] * 6, DOWN, ENTER)
+        self.arrows(7, *[Keys.UP] * 6, *[Keys.LEFT] * 6, Keys.DOWN, Keys.ENTER)
         moves = {it: looked.moves[it] for it in looked.moves if it.startswith("7-")}
         self.assertEqual(self.marks(), marks_of(moves, 1))
-        self.keys(ESCAPE)
+        self.keys(Keys.ESCAPE)
         self.assertEqual(self.marks(), {})
-        self.keys(ENTER, DOWN, ENTER)
+        self.keys(Keys.ENTER, Keys.DOWN, Keys.ENTER)
         self.has("#played", "it === '7-6'")
         self.focus("#back")
-        self.keys(ENTER, shown=("nine", text))
+        self.keys(Keys.ENTER, shown=("nine", text))
         self.focus("#moves button")
-        best = self.browser.run("return document.activeElement.dataset.move;")
+        best = self.run_script("return document.activeElement.dataset.move;")
         self.assertIn(best, looked.best)
-        self.keys(ENTER)
+        self.keys(Keys.ENTER)
         self.has("#played", "it === arguments[0]", best)
         self.leaves("nine", text, "white")
         focused = "return document.activeElement.matches('#moves button');"
-        self.browser.wait("the focus on a move", focused)
-        self.keys(ENTER)
+        self.wait("the focus on a move", focused)
+        self.keys(Keys.ENTER)
         self.has("#played", "it.includes(' ')")
 
     def test_names_for_a_screen_reader(self):
@@ -459,21 +504,20 @@ class Access(Page):
 
     def test_narrow_window(self):
         """Nothing sticks out of a window of 360 pixels, in any of the modes."""
-        self.browser.resize(360, 740)
-        self.addCleanup(self.browser.resize, 1200, 900)
+        self.resize(360)
         exercise = "#nine/find/4-3/won/5-99/7"
         for address in (f"#nine/{LONG}", "#nine/pair/4-3", exercise, "#grid/XXX.OO.O."):
             with self.subTest(address):
                 self.go(address)
                 self.place()
-                width = self.browser.run("return document.documentElement.scrollWidth;")
+                width = self.run_script("return document.documentElement.scrollWidth;")
                 self.assertLessEqual(width, 360)
 
     def test_paper(self):
         """There are the board, the value and all moves, and nothing to press."""
         self.visit("nine", LONG)
-        self.browser.emulate("setEmulatedMedia", media="print")
-        self.addCleanup(self.browser.emulate, "setEmulatedMedia", media="")
+        self.emulate("setEmulatedMedia", media="print")
+        self.addCleanup(self.emulate, "setEmulatedMedia", media="")
         for shown, selectors in ((True, "#board, #value, #moves"), (False, "nav, #steps, .text")):
             found = self.each(selectors, "it.checkVisibility()")
             self.assertEqual(found, [shown] * 3, selectors)
