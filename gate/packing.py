@@ -6,6 +6,7 @@ and the suites in tests/release/ read them."""
 import hashlib
 import os
 import platform
+import re
 import subprocess
 import sys
 import tarfile
@@ -25,6 +26,12 @@ MOST_BYTES = 3_000_000
 # library that C files of embed/ were compiled to.
 PROGRAM, LIBRARY, SHARED = "libexec/morris/morris", "lib/libmorris.a", "lib/libmorris.so.1"
 COMPILED = ("morris_faults.o", "morris_folder.o", "morris_tables.o")
+# The last lines of `rt ci` in the log of a gate, and the last one of `.ci/run`.
+GATE = re.compile(
+    r"^rt: ok; (.*)\n([1-9]\d* passed, 0 failed)\nrt ci: (\S+) minutes\n"
+    r".*^gate: sources (\d+ \d+), (\d+ processors), (\S+) minutes\n\Z",
+    re.MULTILINE | re.DOTALL,
+)
 
 
 def sources(root, *words):
@@ -122,6 +129,17 @@ def stamps(root, archive):
         found["library"] = digest(proved_part(files[LIBRARY]))
         found["shared"] = digest(files[SHARED])
     return found
+
+
+def gate_of(log, sources):
+    """What the log of a gate says, in which rt says itself how many proofs it kept; or None where
+    the gate hasn't passed over these sources."""
+    found = GATE.search(Path(log).read_text(encoding="utf-8", errors="replace"))
+    if not found or found[4] != sources:
+        return None
+    said, passed, proved, _, processors, minutes = found.groups()
+    took = f"in {minutes} minutes, of which rt ci took {proved}"
+    return f"{passed} on {processors} {took}: {said.replace('; ', ', ')}"
 
 
 def facts(root, archive, built, gate):

@@ -1,31 +1,41 @@
-"""What is released, and what release/BUILT says of it: the digests of release/ and of its archive,
-and the record of a gate. Where release/ is of these sources, its archive is tried as whoever
-unpacks it would."""
+"""The archive that `make -C embed dist` makes of this tree, and the one in release/ where that is of
+these sources, as whoever unpacks one would try it; and what release/BUILT says of it: the digests,
+and the record of a gate."""
 
 import os
 import subprocess
 import sys
 
 from gate import packing
-from gate.gate_log import NotPassed, gate_of, steps
-from tests.embed.common import need
+from tests.embed.common import EmbedCase, archive, make, need, out, run
+from tests.embed.static_library import core
 from tests.lib.case import Case
+from tests.lib.chosen import is_from_proofs
 from tests.lib.program import MORRIS, ROOT
 from tests.lib.steps import missing
 from tests.release.clones import write
 from tests.release.unpacked import Unpacked
 
-# What `.ci/run` prints, in short: the sources, and what rt says of all proofs.
+# What `.ci/run` prints, in short.
 LOG = """rt: morris_board proved
-rt: must-fail morris_board/kept.edit: refused, as it must be: proofs/A.antt:1:1: kept in this run
-{said}rt: ok; handles allowed: Threads
-65 passed, {failed} failed
+rt: ok; handles allowed: Threads; done in this run: 5 of the 65 proofs
+65 passed, 0 failed
 rt ci: 35.9 minutes
-{steps}gate: sources {sources}, 4 processors, 40.2 minutes
+13 passed, 0 failed, 0 skipped
+./check --all: 4.1 minutes
+gate: sources 1 2, 4 processors, 40.2 minutes
 """
-TIMES = "65 passed, 0 failed on 4 processors in 40.2 minutes, of which rt ci took 35.9"
-WHOLE, KEPT = "every proof was done in this run", "60 of 65 proofs were kept; 5 were done"
-FAILED = "3 passed, 0 failed\nrt: FAILED: morris_moves\n64 passed, 1 failed\n"
+TOLD = (
+    "65 passed, 0 failed on 4 processors in 40.2 minutes, of which rt ci took 35.9: handles "
+    "allowed: Threads, done in this run: 5 of the 65 proofs"
+)
+# Of a gate that failed, or ran over other sources, or was begun once more.
+OTHER_LOGS = (
+    LOG.replace("rt: ok;", "rt: FAILED: morris_moves;").replace("0 failed\n", "1 failed\n"),
+    LOG.partition("gate: ")[0],
+    LOG.replace("sources 1 2", "sources 1 3"),
+    LOG + LOG.partition("gate: ")[0],
+)
 
 
 def files():
@@ -59,11 +69,31 @@ class Digests(Case):
         self.assertEqual(found["SHA256SUMS"], packing.digests(listed))
 
 
+class Made(Unpacked, EmbedCase):
+    """The archive that is made here."""
+
+    def archive(self):
+        return archive()
+
+    def test_archive_is_the_same_in_another_folder_zone_and_umask(self):
+        env = {**os.environ, "TZ": "Asia/Tokyo", "LC_ALL": "C"}
+        again = make("dist", to=f"{self.make_room()}/again", env=env, umask=0o077).split()[-1]
+        self.assertTrue(packing.read(archive()) == packing.read(again), "other bytes")
+        run(["sha256sum", "-c", "--quiet", "SHA256SUMS"], cwd=out())
+
+
 class Released(Unpacked, Case):
     """The archive in release/, where it is of these sources."""
 
     def archive(self):
         return packing.archive_of(ROOT)
+
+    def test_program_and_library_are_those_that_the_gate_builds(self):
+        """By the same kit, byte for byte."""
+        told = packing.told(ROOT)
+        if is_from_proofs() and told["kit"] == packing.kit():
+            for name, path in (("program", MORRIS), ("library", core())):
+                self.assertEqual(packing.digest(packing.read(path)), told[name], name)
 
     def test_worked_runs(self):
         """The worked runs, which go over another program of these sources elsewhere."""
@@ -79,34 +109,12 @@ class Released(Unpacked, Case):
 class Gates(Case):
     """What BUILT says of a gate is what its log says, and a log of less is refused."""
 
-    def found(self, **changed):
-        """What is told of a log with these changes, or None where it is refused."""
-        minutes = "".join(f"{it}: 0.1 minutes\n" for it in steps()[1:])
-        whole = {"said": "", "sources": "1 2", "failed": 0}
-        whole["steps"] = f"13 passed, 0 failed, 0 skipped\n{minutes}"
+    def test_log_of_a_gate(self):
         log = f"{self.make_room()}/log"
-        write(log, LOG.format(**{**whole, **changed}))
-        try:
-            return gate_of(log, "1 2")
-        except NotPassed:
-            return None
-
-    def test_log_of_a_gate_that_passed(self):
-        for said, told in (
-            ("", TIMES),
-            (f"rt: {WHOLE}\n", f"{TIMES}, where {WHOLE}"),
-            (f"rt: {KEPT}\n", f"{TIMES}, where {KEPT.replace(';', ',')}"),
-            ("rt: morris_board: its proofs were kept\n", TIMES),
-            (FAILED, TIMES),
-        ):
-            with self.subTest(said):
-                self.assertEqual(self.found(said=said), told)
-
-    def test_log_of_a_gate_that_failed_or_ran_elsewhere(self):
-        before = "".join(f"{it}: 0.1 minutes\n" for it in steps()[1:-1])
-        for changed in ({"sources": "1 3"}, {"steps": before}, {"failed": 1}):
-            with self.subTest(**changed):
-                self.assertIsNone(self.found(**changed))
+        for text, told in ((LOG, TOLD), *((it, None) for it in OTHER_LOGS)):
+            with self.subTest(text):
+                write(log, text)
+                self.assertEqual(packing.gate_of(log, "1 2"), told)
 
 
 # (what isn't there, or is of other sources, is no test that is left out)

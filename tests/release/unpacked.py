@@ -1,6 +1,5 @@
 """Tests of an archive of a release as whoever unpacks it would try it: without the kit, without a
-network, and with nothing of this clone. tests/embed/archive.py tries the one that it makes, and
-tests/release/archive.py that of release/."""
+network, and with nothing of this clone."""
 
 import functools
 import os
