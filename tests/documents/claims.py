@@ -20,6 +20,7 @@ from gate.generated import documents, made_anew, parts_of, read
 from launcher.proving import listed
 from tests.embed.packages import shown_programs
 from tests.embed.static_library import NO_LIBRARY, shared_library, without_static
+from tests.explorer.server import Server
 from tests.lib.case import Case
 from tests.lib.program import MORRIS, ROOT, count
 from tests.lib.steps import missing
@@ -92,15 +93,6 @@ class Examples(Case):
             return self.compiled or (missing("c++") if command.startswith("c++ ") else None)
         return self.in_python if command.startswith(IN_PYTHON) else None
 
-    def serve(self, command):
-        """Starts the explorer as a document does, on any port and without a browser, and ends
-        it."""
-        words = [sys.executable, *shlex.split(command)[1:], "--port", "0", "--no-browser"]
-        with subprocess.Popen(words, stdout=subprocess.PIPE, text=True, **self.how) as server:
-            line = server.stdout.readline()
-            server.terminate()
-        self.assertIn("http://127.0.0.1:", line)
-
     def test_examples(self):
         for path in SHOWN:
             examples = examples_of(read(path))
@@ -111,7 +103,8 @@ class Examples(Case):
                         self.skipTest(lacks)
                     count()
                     if command.startswith("python3 embed/explorer.py"):
-                        self.serve(command)
+                        # (on any port and without a browser)
+                        Server(sys.executable, *shlex.split(command)[1:], **self.how).end()
                         continue
                     words = ["bash", "-c", f"set -eo pipefail; {command}"]
                     self.same_run(words, "".join(f"{line}\n" for line in printed))

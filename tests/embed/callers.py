@@ -11,9 +11,9 @@ import sys
 
 from gate.packing import read
 from tests.embed.common import EMBED, MOST_SECONDS, SEED, EmbedCase, all_of_grid, best_of, compare
-from tests.embed.common import folders, lacks, made_up, make, need, out, run, text_of
+from tests.embed.common import folders, lacks, made_up, make, need, out, run
 from tests.lib.program import MORRIS, count
-from tests.lib.rules import BOARDS
+from tests.lib.rules import BOARDS, text_of
 from tests.lib.steps import C_COMPILER, CPP_COMPILER, is_there
 from tests.lib.tables import damaged, replaced
 
@@ -151,9 +151,9 @@ class Answers(EmbedCase):
         for name, board in BOARDS.items():
             texts, played = [], []
             for position in any_positions(board, PLAYED):
-                text = text_of(board, position)
+                text = text_of(position, board)
                 moves = board.moves(*position)
-                lines = [f"{move} {text_of(board, after)}" for move, after in moves]
+                lines = [f"{move} {text_of(after, board)}" for move, after in moves]
                 found = morris.legal_moves(text, name)
                 self.same(text, [f"{it} {morris.play(text, it, name)}" for it in found], lines)
                 if len(texts) < LOOKED_AT:

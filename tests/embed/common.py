@@ -1,9 +1,11 @@
 """What the suites share that try the library of embed/: commands, tables, positions, and what is
 compiled once for all tests of a suite."""
 
+import atexit
 import functools
 import os
 import random
+import shutil
 import subprocess
 import sys
 import tempfile
@@ -13,15 +15,17 @@ from gate import packing
 from tests.embed.static_library import NO_LIBRARY, core, shared_library, without_static
 from tests.lib.case import Case
 from tests.lib.program import MORRIS, ROOT, count
-from tests.lib.rules import GRID, NINE, positions
+from tests.lib.rules import GRID, NINE, positions, text_of
 from tests.lib.steps import CPP_COMPILER, NO_CPP_COMPILER, RUST_COMPILER, is_there, missing
-from tests.lib.tables import tables
+from tests.lib.tables import own_tables, tables
 
 EMBED = f"{ROOT}/embed"
 # No call takes so many seconds.
 MOST_SECONDS = 600
-# How many positions of the usual board are asked for, and the seed by which they are made up.
+# How many positions of the usual board are asked for, by how many stones of the players, of whom
+# one with two stones has lost, and the seed by which they are made up.
 ASKED, SEED = 500, 20261125
+STONES = ((3, 3), (4, 3), (3, 4), (4, 4), (2, 3), (2, 4))
 
 
 def run(words, seconds=MOST_SECONDS, **how):
@@ -60,14 +64,17 @@ def need(want):
         raise unittest.SkipTest(want)
 
 
+def new_room():
+    """A folder that is gone when the process ends."""
+    folder = tempfile.mkdtemp(prefix="morris-embed-")
+    atexit.register(shutil.rmtree, folder, ignore_errors=True)
+    return folder
+
+
 @functools.cache
-def _room():
-    return tempfile.TemporaryDirectory(prefix="morris-embed-")
-
-
 def out():
-    """The folder of what is compiled, which is gone when the process ends."""
-    return f"{_room().name}/out"
+    """The folder of what is compiled."""
+    return f"{new_room()}/out"
 
 
 def make(*words, to=None, **how):
@@ -113,40 +120,31 @@ def lacks(language):
 
 @functools.cache
 def folders():
-    """Two folders with the tables of Nine up to 4-4 and of all pairs of Grid, in version 1 and in
-    version 2, which nobody changes."""
-    found = []
-    for classes in (False, True):
-        folder = f"{_room().name}/{'classes' if classes else 'full'}"
-        os.mkdir(folder)
-        for board, pair in (("grid", "5-4"), ("grid", "6-3"), ("nine", "4-4")):
-            for it in os.scandir(tables(board, pair, classes)):
-                if it.name.endswith(".nmmt") and not os.path.exists(f"{folder}/{it.name}"):
-                    os.link(it.path, f"{folder}/{it.name}")
-        found.append(folder)
+    """Two folders with the tables of Nine up to 4-4 and of all pairs of Grid, by positions and by
+    classes."""
+    found = [new_room(), new_room()]
+    for classes, folder in enumerate(found):
+        for pair in ("5-4", "6-3"):
+            own_tables(folder, "grid", pair, bool(classes))
+        links = {"copy_function": os.link, "dirs_exist_ok": True}
+        shutil.copytree(tables("nine", "4-4", bool(classes)), folder, **links)
     return found
 
 
-def text_of(board, position):
-    own, other = position
-    return "".join("X" if p in own else "O" if p in other else "." for p in board.points)
-
-
 @functools.cache
-def made_up():
-    """Positions of the usual board with up to four stones of either player, by a fixed seed. With
-    two own stones the player to move has lost."""
-    chance, found = random.Random(SEED), []
-    for _ in range(ASKED):
-        own, other = chance.choice([(3, 3), (4, 3), (3, 4), (4, 4), (2, 3), (2, 4)])
+def made_up(many=ASKED, stones=STONES, seed=SEED):
+    """Positions of the usual board with so many stones of the players, each one once."""
+    chance, found = random.Random(seed), {}
+    while len(found) < many:
+        own, other = chance.choice(stones)
         points = chance.sample(NINE.points, own + other)
-        found.append(text_of(NINE, (set(points[:own]), set(points[own:]))))
-    return found
+        found[text_of((set(points[:own]), set(points[own:])), NINE)] = True
+    return list(found)
 
 
 @functools.cache
-def all_of_grid():
-    return [text_of(GRID, it) for it in positions((3, 3))]
+def all_of_grid(pair=(3, 3)):
+    return [text_of(it, GRID) for it in positions(pair)]
 
 
 def best_of(folder, text):

@@ -6,17 +6,15 @@ and C files.
 """
 
 import functools
-import json
 import os
-import re
 import shutil
-import urllib.request
 
 from gate import packing
 from tests.embed.common import archive, need
 from tests.embed.static_library import without_static
-from tests.lib.steps import missing
-from tests.release.clones import MOST_SECONDS, Clone, Copies, Unpacking, append, files_below, write
+from tests.explorer.server import Server
+from tests.lib.steps import ROOT, missing
+from tests.release.clones import Clone, Copies, Unpacking, append, files_below, write
 
 ASKS = "import morris; it = morris.library(); print(it.origin); print(it.path)"
 # What the module says of the library that it took.
@@ -41,16 +39,15 @@ TEXT, VALUE, BEST = "XX.X...O.O.O............", "won in 1", "3-2"
 @functools.cache
 def clone():
     """A clone with a release of its own sources and C files, and few crates, since it is copied for
-    each test, and its sources are read by each run."""
-    made = Clone()
-    if without_static():
-        told = packing.told(made.top)
-        now = packing.sources(made.top), packing.sources(made.top, "interface")
-        is_ours = (told.get("sources"), told.get("interface")) == now
-        need(None if is_ours else "an archive of these sources, released or made here")
-        kept = shutil.copy(packing.archive_of(made.top), made.at)
-    else:
+    each test, and its sources are read by each run. Or None where no archive is of these."""
+    told, now = packing.told(ROOT), (packing.sources(ROOT), packing.sources(ROOT, "interface"))
+    if not without_static():
         kept = archive()
+    elif (told.get("sources"), told.get("interface")) == now:
+        kept = packing.archive_of(ROOT)
+    else:
+        return None
+    made = Clone()
     for name in os.listdir(f"{made.top}/crates"):
         if name not in ("morris", "morris_board"):
             shutil.rmtree(f"{made.top}/crates/{name}")
@@ -62,6 +59,7 @@ class Module(Copies):
     clone = staticmethod(clone)
 
     def setUp(self):
+        need(None if clone() else "an archive of these sources, released or made here")
         super().setUp()
         self.built = f"{self.top}/embed/out/libmorris.so"
         self.python = f"{self.room.commands}/python3"
@@ -127,19 +125,10 @@ class Released(Module, Unpacking):
         words = [f"{self.top}/morris", "build", "nine", "3-3", "--classes", "--into"]
         self.assertEqual(self.run_here([*words, f"{self.at}/tables"])[0], 0)
         words = [self.python, f"{self.top}/embed/explorer.py", f"{self.at}/tables"]
-        words += ["--port", "0", "--no-browser"]
-        with self.started(words, PYTHONUNBUFFERED="1") as server:
-            try:
-                taken = server.stderr.readline()
-                page = re.search(r"http://\S+/", server.stdout.readline())[0]
-                asked = f"{page}api/position?board=nine&text={TEXT}"
-                with urllib.request.urlopen(asked, timeout=MOST_SECONDS) as answer:
-                    found = json.load(answer)
-            finally:
-                server.terminate()
-            server.communicate(timeout=MOST_SECONDS)
+        with Server(*words, env=self.env(), cwd=self.at) as server:
+            found = server.ask("/api/position", board="nine", text=TEXT)
         path = f"{self.released}/{packing.told(self.top)['shared']}/libmorris.so.1"
-        self.assertEqual(taken, f"the library of Morris: {path}, {RELEASED}\n")
+        self.assertEqual(server.library, f"{path}, {RELEASED}")
         self.assertEqual(f"{found['result']} in {found['depth']}", VALUE)
         self.assertIn(BEST, {it["move"].split("x")[0] for it in found["moves"] if it["best"]})
 

@@ -9,14 +9,14 @@ import json
 import time
 from pathlib import Path
 
-from tests.explorer.common import PAIRS, Explored, all_of_grid, fields, made_up, points_of
+from tests.embed.common import all_of_grid, made_up
+from tests.explorer.common import PAIRS, Explored, fields, points_of
 from tests.lib.program import MOST_SECONDS
 from tests.lib.rules import BOARDS, read_text, text_of
 from tests.lib.tables import own_tables
 
-# How many positions of the usual board are asked for, by how many stones.
+# How many positions of the usual board are asked for.
 ASKED = 2_000
-STONES = [(3, 3), (4, 3), (3, 4), (4, 4), (2, 3), (2, 4)]
 # In how many plies positions are asked for that are to be found.
 RANGES = [(0, 2), (1, 9), (2, 2), (3, 3), (3, 9), (20, 26), (31, 99)]
 
@@ -79,7 +79,7 @@ class Answers:
     def test_positions(self):
         """All of 3-3 on the board grid, and made-up ones of the usual board: their values, and all
         moves with what they lead to."""
-        for board, texts in (("grid", all_of_grid((3, 3))), ("nine", made_up(ASKED, STONES))):
+        for board, texts in (("grid", all_of_grid()), ("nine", made_up(ASKED))):
             looked = self.looked_up(board, texts)
             wrong = {}
             for text in texts:

@@ -8,7 +8,8 @@ import sys
 import unittest
 from collections import Counter
 
-from tests.explorer.common import PAIRS, Explored, all_of_grid, fields, made_up, points_of
+from tests.embed.common import all_of_grid, made_up
+from tests.explorer.common import PAIRS, Explored, fields, points_of
 from tests.lib.program import count
 from tests.lib.steps import missing
 
@@ -31,7 +32,7 @@ MOST_OF_A_WAIT, BETWEEN = 20, 0.02
 
 # How many positions of each board are shown, and by how many stones.
 ASKED = 200
-STONES = [(3, 3), (4, 3), (3, 4), (4, 4)]
+STONES = ((3, 3), (4, 3), (3, 4), (4, 4))
 # Won in 9 plies.
 LONG = "OXO.OXO.XX.............."
 COUNTS = "[it.dataset.value, Number(it.querySelector('[data-count]').dataset.count)]"
@@ -248,7 +249,7 @@ class Positions(Page):
         self.shows("nine", LONG)
 
     def test_positions_by_their_addresses(self):
-        grid = sorted({*all_of_grid((3, 3))[::17], *all_of_grid((4, 3))[::23]})[:ASKED]
+        grid = sorted({*all_of_grid()[::17], *all_of_grid((4, 3))[::23]})[:ASKED]
         for board, texts in (("nine", made_up(ASKED, STONES, 62)), ("grid", grid)):
             looked = self.looked_up(board, texts)
             for place, text in enumerate(texts):
@@ -317,7 +318,7 @@ class Positions(Page):
 
     def test_best_line_of_a_draw(self):
         """It ends where a position repeats, or where it is stopped."""
-        looked = self.looked_up("grid", all_of_grid((3, 3)))
+        looked = self.looked_up("grid", all_of_grid())
         text = next(it for it in looked if looked[it].value == "draw")
         self.visit("grid", text)
         self.click("#best")

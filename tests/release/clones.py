@@ -96,17 +96,19 @@ class Copies(Case):
         subprocess.run(["chmod", "-R", "u+w", self.at], check=True)
         shutil.rmtree(self.at)
 
-    def started(self, words, before=(), path=None, **env):
-        env = {
+    def env(self, path=None, **more):
+        return {
             "PATH": path or self.room.commands,
             "HOME": f"{self.at}/home",
             "TMPDIR": f"{self.at}/tmp",
             "PYTHONPATH": f"{self.top}/embed",
             "PYTHONDONTWRITEBYTECODE": "1",
-            **env,
+            **more,
         }
+
+    def started(self, words, before=(), **env):
         count()
-        how = {"env": env, "cwd": self.at, "stdin": subprocess.DEVNULL, "text": True}
+        how = {"env": self.env(**env), "cwd": self.at, "stdin": subprocess.DEVNULL, "text": True}
         how.update(stdout=subprocess.PIPE, stderr=subprocess.PIPE)
         return subprocess.Popen([*before, *words], **how)
 

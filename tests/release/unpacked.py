@@ -8,13 +8,12 @@ import shutil
 import subprocess
 import sys
 import tarfile
-import tempfile
-import urllib.request
 import venv
 from glob import glob
 
 from gate.packing import read
-from tests.embed.common import bare, compare, need, run
+from tests.embed.common import bare, compare, need, new_room, run
+from tests.explorer.server import Server
 from tests.lib.program import COUNTED, LOOKED
 from tests.lib.steps import C_COMPILER, NO_PIP, missing, without_c
 
@@ -33,15 +32,6 @@ VERSIONED = {
     "rust/Cargo.toml": r'^version = "(.*)"$',
     "share/man/man1/morris.1": r'^\.TH MORRIS 1 "" "morris (.*)" "Morris"$',
 }
-
-
-# Folders that are gone when the process ends.
-_rooms = []
-
-
-def new_room():
-    _rooms.append(tempfile.TemporaryDirectory(prefix="morris-unpacked-"))
-    return _rooms[-1].name
 
 
 @functools.cache
@@ -105,17 +95,8 @@ def pip(python, *words, **env):
 
 def serves(*words):
     """The explorer gives its page."""
-    words = [*words, "--port", "0", "--no-browser"]
-    how = {"stdout": subprocess.PIPE, "stderr": subprocess.DEVNULL, "text": True, "cwd": "/"}
-    env = bare(PYTHONUNBUFFERED="1", PYTHON=sys.executable)
-    with subprocess.Popen(words, env=env, **how) as server:
-        try:
-            address = re.search(r"http://\S+", server.stdout.readline())[0]
-            with urllib.request.urlopen(address, timeout=60) as page:
-                if b"<title>" not in page.read():
-                    raise AssertionError(f"{' '.join(words)}: gave no page")
-        finally:
-            server.terminate()
+    with Server(*words, env=bare(PYTHON=sys.executable), cwd="/") as server:
+        assert b"<title>" in server.ask("/"), words
 
 
 def build_and_ask(words, folder):
