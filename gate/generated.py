@@ -12,12 +12,10 @@ A part stands between a mark `<!-- from KIND WORDS -->`, of one line or more, an
     definitions FILE NAME..   the definitions of these names, as they stand in crates/FILE
     source FILE               the whole of crates/FILE
     edits                     the edits that the prover has to refuse, crate by crate
-    edit-counts               how many there are of each crate
     options COMMAND           the options of a command, as its help lists them
     pairs FILE                what bench/pairs put into docs/FILE, as a table
     picture FILE              the same as a picture, by bench/picture.py
     took FILE                 what bench/whole put into docs/FILE, as a table
-    proof-seconds             what the first check of each crate takes, by proof_seconds.txt
 """
 
 import csv
@@ -93,12 +91,7 @@ def edits_of(crate):
         for path in sorted(Path(ROOT, "crates", crate, folder).glob("*.edit")):
             first = path.read_text(encoding="utf-8").split("\n", 1)[0]
             breaks = first.removeprefix("# Breaks ").removesuffix(".")
-            yield path.stem, "" if breaks == first else breaks, tried
-
-
-def crates_with_edits():
-    """The crates that have edits, in the order of crates.txt."""
-    return [crate for crate in listed() if any(True for _ in edits_of(crate))]
+            yield f"`{path.stem}`", "" if breaks == first else breaks, tried
 
 
 def table(head, rows):
@@ -110,21 +103,10 @@ def table(head, rows):
 def edits(_):
     """A table of the edits of each crate."""
     made = []
-    for crate in crates_with_edits():
-        rows = [(f"`{name}`", breaks, tried) for name, breaks, tried in edits_of(crate)]
-        made += ["", f"## `{crate}`", "", *table("edit | breaks | tried by", rows)]
+    for crate in listed():
+        if rows := list(edits_of(crate)):
+            made += ["", f"## `{crate}`", "", *table("edit | breaks | tried by", rows)]
     return [*made, ""]
-
-
-def edit_counts(_):
-    """How many edits each crate has, and how many there are in all."""
-    rows = {}
-    for crate in crates_with_edits():
-        tried = [it for _, _, it in edits_of(crate)]
-        rows[f"`{crate}`"] = [tried.count(it) for it in FOLDERS.values()]
-    rows["all"] = [sum(it) for it in zip(*rows.values())]
-    rows = [(name, *counts) for name, counts in rows.items()]
-    return table("crate | tried by the gate | at a release", rows)
 
 
 def options_of(command):
@@ -185,18 +167,7 @@ def took(_, file):
     return table(head, ([row["pair"], *(shown(it, row[it]) for it in found)] for row in rows))
 
 
-def proof_seconds(_):
-    """What the first check of each crate takes, as a table, and of all together."""
-    lines = read("launcher/proof_seconds.txt").splitlines()
-    head = [it.removeprefix("# ") for it in lines if it.startswith("#")]
-    seconds = {it.split()[0]: int(it.split()[1]) for it in lines if not it.startswith("#")}
-    rows = [(f"`{crate}`", f"{it:,}") for crate, it in seconds.items()]
-    rows.append(("all", f"{sum(seconds.values()):,}"))
-    return [*head, "", *table("crate | processor seconds", rows)]
-
-
-KINDS = (definitions, source, edits, edit_counts, options, pairs, picture, took, proof_seconds)
-MAKERS = {it.__name__.replace("_", "-"): it for it in KINDS}
+MAKERS = {it.__name__: it for it in (definitions, source, edits, options, pairs, picture, took)}
 
 
 def made_anew(path, kinds=MAKERS):

@@ -133,12 +133,7 @@ class Prover:
         self.rt = functions_of_rt()
         self.crates = {it.name: it for it in self.rt.rtlib.crates_below(ROOT)}
 
-    # (both read all sources below a crate, more than once, and nothing changes meanwhile)
-    @functools.cache
-    def is_ready(self, crate):
-        """Whether a library is built from these sources, and what was proved of it is kept."""
-        return self.crates[crate].is_built() and self.crates[crate].has_kept()
-
+    # (it reads all sources below a crate, and nothing changes meanwhile)
     @functools.cache
     def stamp(self, crate):
         """A checksum of the kit, of a crate and of those that it stands on."""

@@ -1,6 +1,6 @@
 """What the documents show and say: their examples, which are run in the order in which they stand,
 the parts that are made of sources, edits and help (gate/generated.py), the test vectors of the file
-format, the files, contracts and faults that they name, their counts and their versions.
+format, the files, contracts and faults that they name, and their versions.
 
 Lines of progress depend on the machine, so examples with `--progress` are passed over, and so are
 ./check itself and what takes long; the explorer is started, and ended again. What is compiled is
@@ -13,7 +13,6 @@ import shlex
 import shutil
 import subprocess
 import sys
-from collections import Counter
 from pathlib import Path
 
 from gate.generated import documents, made_anew, parts_of, read
@@ -199,22 +198,3 @@ class Sources(Case):
             for name, cell in named:
                 with self.subTest(path, cell=cell, name=name):
                     self.assertIn(name.rpartition("::")[2], words)
-
-    def test_counts(self):
-        """docs/TESTING.md has as many tests of each crate, and as many crates and edits, as there
-        are."""
-        tests, edits, text = Counter(), Counter(), read("docs/TESTING.md")
-        for crate in listed():
-            folder = Path(ROOT, "crates", crate)
-            tests[crate] = sum(it.read_text().count("#[test]") for it in folder.glob("src/**/*.rt"))
-            for tried in ("must-fail", "edits-at-release"):
-                edits[tried] += len(list(folder.glob(f"{tried}/*.edit")))
-        rows = re.findall(r"^\| `(\w+)` \| (\d+) \| .* \|$", text.split("| of what |")[1], re.M)
-        self.assertEqual({crate: int(many) for crate, many in rows}, dict(+tests))
-        for phrase in (
-            f"all {sum(edits.values())} edits",
-            f"the {len(listed())} crates from nothing",
-            f"tries {edits['must-fail']} must-fail edits",
-            f"runs {sum(tests.values())} tests",
-        ):
-            self.assertIn(phrase, " ".join(text.split()))

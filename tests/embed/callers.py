@@ -10,12 +10,12 @@ import subprocess
 import sys
 
 from gate.packing import read
-from tests.embed.common import EMBED, MOST_SECONDS, SEED, EmbedCase, all_of_grid, best_of, compare
+from tests.embed.common import EMBED, SEED, EmbedCase, all_of_grid, compare
 from tests.embed.common import folders, lacks, made_up, make, need, out, run
-from tests.lib.program import MORRIS, count
+from tests.lib.program import MORRIS
 from tests.lib.rules import BOARDS, text_of
 from tests.lib.steps import C_COMPILER, CPP_COMPILER, is_there
-from tests.lib.tables import damaged, replaced
+from tests.lib.tables import damaged
 
 # The callers in each language, of which the first answers what `morris lookup --moves` does, and
 # the examples.
@@ -30,11 +30,6 @@ SANITIZED = "-O1 -g -fno-sanitize-recover=all -fsanitize=address,undefined -DMOS
 # What is given back is kept for a while, but no more of it than a leak of a page each time would
 # be.
 KEEPS_LITTLE = {"ASAN_OPTIONS": "quarantine_size_mb=1"}
-# Whose texts are no positions of the tables: too few stones, and a pair that has no file.
-REFUSED = {
-    "X......OOO..............": ("MORRIS_STONES", "3"),
-    "XXXXX..OOO..............": ("MORRIS_NO_TABLE", "13"),
-}
 
 
 @functools.cache
@@ -166,96 +161,25 @@ class Answers(EmbedCase):
                 found = run([f"{compiled('c')}/plays"], input=input_of(texts))
                 compare(name, found, input_of(played))
 
-    def test_what_has_no_answer(self):
-        with open(f"{EMBED}/morris.h", encoding="utf-8") as header:
-            statuses = dict(re.findall(r"(MORRIS_\w+) = (\d+)", header.read()))
+    def test_games_of_the_examples(self):
+        """Those in C and in Python play the same ones."""
         for folder in folders():
-            for text, (status, fault) in REFUSED.items():
-                with self.subTest(text, folder=folder):
-                    printed, found = said_of("lookup", "nine", "--from", folder, text)
-                    self.assertIn(f"fault {fault}: ", printed, found)
-                    found = run([f"{compiled('c')}/answers", folder], input=f"{text}\n")
-                    self.assertEqual(found, f"{text}: status {statuses[status]}\n")
-
-    def test_examples(self):
-        """They print what `morris lookup` does, and those that play a game play the same one."""
-        text = next(it for it in made_up() if it.count("X") > 2)
-        for folder in folders():
-            expected = best_of(folder, text)
-            found = run([sys.executable, f"{EMBED}/examples/best.py", folder, text])
-            self.assertEqual(found, expected)
-            for language, name in (("c", "best"), ("rust", "best_rs")):
-                with self.subTest(name, folder=folder):
-                    found = run([f"{compiled(language)}/{name}", folder, text])
-                    self.assertEqual(found, expected)
             for first in made_up()[:GAMES]:
                 with self.subTest(first, folder=folder):
                     game = run([sys.executable, f"{EMBED}/examples/play.py", folder, first])
                     self.assertTrue(game.endswith((": a draw\n", " has lost\n")), game)
                     compare(first, run([f"{compiled('c')}/play", folder, first]), game)
 
-
-# ---- damaged files
-
-# A position of 3-3 of Grid, and the file in which it is.
-TEXT = "XXXOO.O.."
-NAME = "grid-3-3.nmmt"
-
-
-def said_of(*words):
-    """What a run of the program prints, which ends with a fault or with status 0, and the fault's
-    text without the file's name, or None."""
-    count()
-    how = {"capture_output": True, "text": True, "timeout": MOST_SECONDS}
-    done = subprocess.run([MORRIS, *words], check=False, **how)
-    printed = done.stdout + done.stderr
-    found = re.search(r"fault \d+: (.*)", printed)
-    if (found is None) != (done.returncode == 0):
-        raise AssertionError(f"morris {' '.join(words)}: {done}")
-    text = found and found[1].removesuffix(", in the file of 3-3")
-    return printed, text and text.replace("file of 3-3", "file")
-
-
-def damages(folder):
-    """What may stand under the name of 3-3 of Grid, in place of its file."""
-    file, other = read(f"{folder}/{NAME}"), read(f"{folder}/grid-4-3.nmmt")
-    yield from (content for content, _ in damaged(file))
-    yield from (file[:length] for length in (1, 15, 16, 17))
-    yield from (bytes(len(file)), b"<html>", b"<!doctype html><title>404</title>")
-    yield from (read(f"{folder}/nine-3-3.nmmt"), other, other[:-1], other + b"\0")
-    for place, values in ((5, b"\7"), (5, b"\0\4\3"), (6, b"\0\0"), (6, b"\x09\3"), (6, b"\4\3")):
-        yield replaced(file, place, values)
-    yield replaced(file, len(file) - 1, bytes([file[-1] ^ 1]))
-
-
-class DamagedFiles(EmbedCase):
-    """The library has no numbers of faults, but the program's texts."""
-
-    def reason(self, call):
-        """The reason of the fault that a call of the module raises, which names the file, or
-        None."""
-        import morris
-
-        try:
-            call()
-        except morris.Damaged as fault:
-            self.assertEqual((fault.pair, os.path.basename(fault.path)), ((3, 3), NAME))
-            return fault.reason
-        return None
-
-    def test_library_says_what_the_program_does(self):
+    def test_texts_of_faults(self):
+        """The library has no numbers of faults, but the program's texts."""
         import morris
 
         for folder in folders():
-            for content in damages(folder):
+            for content, fault in damaged(read(f"{folder}/grid-3-3.nmmt")):
                 place = self.make_room()
-                with open(f"{place}/{NAME}", "wb") as file:
+                with open(f"{place}/grid-3-3.nmmt", "wb") as file:
                     file.write(content)
-                head = f"{len(content)} bytes, {content[:16]}"
-                with self.subTest(head), morris.open_tables(place, "grid") as tables:
-                    _, verified = said_of("verify", "grid", "--from", place)
-                    _, looked = said_of("lookup", "grid", "--from", place, TEXT)
-                    # `lookup` says of another pair's table that it needs its own.
-                    looked = verified if looked == "needs 3-3" else looked
-                    self.assertEqual(self.reason(tables.check_digests), verified)
-                    self.assertEqual(self.reason(lambda: tables.value(TEXT)), looked)
+                with self.subTest(fault), morris.open_tables(place, "grid") as tables:
+                    with self.assertRaises(morris.Damaged) as found:
+                        tables.value("XXXOO.O..")
+                    self.assertEqual(found.exception.reason, fault.partition(": ")[2])

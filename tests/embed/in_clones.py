@@ -196,23 +196,22 @@ class Changes(Module):
         with open(self.built, "ab") as file:
             file.write(b"\0")
         self.assertEqual(self.library()[0], STALE)
-
-    def test_stale_library_is_passed_over_without_release_too(self):
-        self.put(self.stamp())
-        append(f"{self.top}/embed/morris_tables.c")
-        self.refused(OTHER_FILES)
         shutil.rmtree(f"{self.top}/release")
         self.refused(NO_RELEASE)
 
+    def make(self, *words):
+        """Whether `make -C embed` ends well where no kit is, and what it says."""
+        words = ["make", "-s", "-C", f"{self.top}/embed", *words]
+        status, output, errors = self.run_here(words, path="/usr/bin:/bin")
+        self.assertEqual(output, "")
+        return status == 0, errors
+
     def test_make_builds_what_is_taken(self):
-        """`make -C embed` builds anew what isn't of these sources, and the module takes it."""
+        """`make -C embed` builds anew what isn't of these sources, and the module takes it. What it
+        stands on, and what it installs, is what was proved."""
         need(missing("make", "cc", "ar"))
-
-        def make(*words):
-            words = ["make", "-s", "-C", f"{self.top}/embed", *words]
-            status, output, errors = self.run_here(words, path="/usr/bin:/bin")
-            self.assertEqual((status, output), (0, ""), errors)
-
+        core = f"{self.top}/crates/morris_c/out/libmorris_c.a"
+        make = lambda *words: self.assertTrue(*self.make(*words))
         self.put()
         for change in (None, "/* changed */\n", ""):
             with self.subTest(change):
@@ -222,12 +221,26 @@ class Changes(Module):
                 make()
                 self.assertEqual(self.library(), (BUILT, self.built))
         # Of a core that somebody names, nobody knows the sources.
-        core = f"{self.at}/core.a"
-        shutil.copy(f"{self.top}/crates/morris_c/out/libmorris_c.a", core)
-        make(f"CORE={core}")
+        make(f"CORE={shutil.copy(core, self.at)}")
         self.refused(OTHER_FILES)
-        make()
+        make("all", "out/program")
         self.assertEqual(self.library(), (BUILT, self.built))
+        told = packing.told(self.top)
+        for name, path in (("library", core), ("program", f"{self.top}/embed/out/program")):
+            self.assertEqual(packing.digest(packing.read(path)), told[name], name)
+
+    def test_make_without_kit_refuses_what_is_not_of_these_sources(self):
+        need(missing("make", "cc", "ar"))
+        told, archive = packing.told(self.top), packing.archive_of(self.top)
+        refused = lambda why: self.assertRegex(repr(self.make()), rf"^\(False, .*{why}")
+        packing.release(self.top, archive, {**told, "library": 64 * "0"})
+        refused("has the digest")
+        packing.release(self.top, archive, told)
+        append(archive)
+        refused("has the digest")
+        append(f"{self.top}/crates/morris_board/src/points.rt")
+        refused("rt isn't on the PATH")
+        self.assertEqual(files_below(f"{self.top}/crates/morris_c/out"), [])
 
     def test_named_library_is_taken_whatever_it_is_of(self):
         self.put()

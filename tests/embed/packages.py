@@ -1,5 +1,5 @@
-"""What others take of embed/, tried as they would: the programs of its page, the package for Python
-in fresh environments, the crate for Rust, and `make -C embed` without a kit."""
+"""What others take of embed/, tried as they would: the program in Rust of its page, the package for
+Python in a fresh environment, and the crate for Rust."""
 
 import email
 import functools
@@ -10,14 +10,13 @@ import subprocess
 import sys
 from zipfile import ZipFile
 
-from gate import packing
 from gate.packing import read
-from tests.embed.common import EMBED, EmbedCase, all_of_grid, archive, bare, best_of
+from tests.embed.common import EMBED, EmbedCase, all_of_grid, bare, best_of
 from tests.embed.common import folders, lacks, made_up, make, need, out, run
 from tests.embed.static_library import core
-from tests.lib.program import MORRIS, ROOT
+from tests.lib.program import ROOT
 from tests.lib.steps import RUST_COMPILER, missing
-from tests.release.clones import append, files_below
+from tests.release.clones import files_below
 from tests.release.unpacked import environment, pip
 
 # Asks for positions of both boards in a process of its own, with nothing of this one.
@@ -110,21 +109,9 @@ print(Metadata.from_email(wheel.read(name), validate=True).version)
 """
 
 
-@functools.cache
-def wheel():
-    need(lacks("c"))
-    return f"{out()}/{make('wheel').strip()}"
-
-
 class PackageForPython(EmbedCase):
-    """The wheel in a fresh environment, and the folder in another, with no network."""
-
-    def test_wheel(self):
-        python = environment(f"{self.make_room()}/it")
-        pip(python, "install", "--no-index", wheel())
-        asks_elsewhere(self, python)
-        shown = run([python, "-m", "pip", "show", "-f", "morris"], env=bare())
-        self.assertEqual([it for it in LISTED if it not in shown], [])
+    """The folder in a fresh environment, with no network, and the wheel, which an archive's tests
+    install."""
 
     def test_folder_with_its_explorer(self):
         need(lacks("c"))
@@ -137,17 +124,22 @@ class PackageForPython(EmbedCase):
         for it in (it for it in files_below(f"{EMBED}/explorer") if not it.endswith(".pyc")):
             self.assertEqual(read(f"{installed}/{os.path.relpath(it, EMBED)}"), read(it), it)
 
-    def test_strict_readers_take_the_metadata(self):
-        """No field is there but those of its version, once each."""
-        with ZipFile(wheel()) as packed:
-            (name,) = [it for it in packed.namelist() if it.endswith("/METADATA")]
+    def test_files_of_the_wheel(self):
+        """Its license is there too; and strict readers take the metadata, which have no field but
+        those of their version, once each."""
+        need(lacks("c"))
+        wheel = f"{out()}/{make('wheel').strip()}"
+        with ZipFile(wheel) as packed:
+            names = "\n".join(packed.namelist())
+            self.assertEqual([it for it in LISTED if it not in names], [])
+            name = re.search(".*/METADATA$", names, re.M)[0]
             head = email.message_from_string(packed.read(name).decode())
         fields = [it for it in head.keys() if it != OFTEN]
         self.assertEqual(sorted(fields), sorted([*ONCE, TEXT]))
         self.assertEqual(head["Metadata-Version"], "2.1")
         classifiers = {"Typing :: Typed", "Programming Language :: Python :: 3"}
         self.assertLessEqual(classifiers, {*head.get_all(OFTEN)})
-        done = subprocess.run([sys.executable, "-c", STRICTLY, wheel()], capture_output=True)
+        done = subprocess.run([sys.executable, "-c", STRICTLY, wheel], capture_output=True)
         if b"ImportError" not in done.stderr and b"ModuleNotFoundError" not in done.stderr:
             self.assertEqual(done.returncode, 0, done.stderr)
 
@@ -208,51 +200,3 @@ class CrateForRust(EmbedCase):
         make(f"PREFIX={prefix}", "install")
         found = self.cargo(*words, PKG_CONFIG_PATH=f"{prefix}/lib/pkgconfig")
         self.assertEqual(found, best_of(*words[-2:]))
-
-
-# ---- without a kit
-
-
-class WithoutKit(EmbedCase):
-    """Where the archive of these sources is released, `make -C embed` needs no kit."""
-
-    def setUp(self):
-        super().setUp()
-        self.archive = archive()
-        self.top = self.make_room()
-        left = ("out", "target", "must-fail", "edits-at-release", "__pycache__")
-        for folder in ("crates", "embed", "launcher"):
-            left_out = shutil.ignore_patterns(*left)
-            shutil.copytree(f"{ROOT}/{folder}", f"{self.top}/{folder}", ignore=left_out)
-        os.mkdir(f"{self.top}/docs")
-        for name in ("LICENSE", "crates.txt", "docs/FILE_FORMAT.md", "docs/morris.1"):
-            shutil.copy(f"{ROOT}/{name}", f"{self.top}/{name}")
-        self.lines = packing.stamps(self.top, self.archive)
-
-    def make(self, *words):
-        words = ["make", "-s", "-C", f"{self.top}/embed", f"PYTHON={sys.executable}", *words]
-        return run(words, env=bare())
-
-    def refused(self, why):
-        """`make -C embed` says why it makes no library, and leaves none."""
-        with self.assertRaisesRegex(AssertionError, why):
-            self.make()
-        self.assertEqual(files_below(f"{self.top}/crates/morris_c/out"), [])
-
-    def test_library_and_program_are_unpacked(self):
-        packing.release(self.top, self.archive, self.lines)
-        prefix = f"{self.top}/prefix"
-        self.make(f"PREFIX={prefix}", "install")
-        made = read(f"{self.top}/crates/morris_c/out/libmorris_c.a")
-        self.assertTrue(made == read(core()), "another library than the released one")
-        self.assertTrue(read(f"{prefix}/libexec/morris/morris") == read(MORRIS), "another program")
-
-    def test_what_is_not_of_these_sources_is_refused(self):
-        self.refused("rt isn't on the PATH")
-        packing.release(self.top, self.archive, {**self.lines, "library": 64 * "0"})
-        self.refused("has the digest")
-        packing.release(self.top, self.archive, self.lines)
-        append(packing.archive_of(self.top))
-        self.refused("has the digest")
-        append(f"{self.top}/crates/morris_board/src/points.rt")
-        self.refused("rt isn't on the PATH")

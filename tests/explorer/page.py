@@ -46,6 +46,7 @@ PASTE = """
     document.body.dispatchEvent(new ClipboardEvent('paste', how));
 """
 SHOWN = "const it = document.body.dataset.shown; "
+MOVE = "[data-move='{}']"
 SIGNS = {"won": "+", "draw": "=", "lost": "\u2212"}
 
 
@@ -100,22 +101,19 @@ class Page(Explored):
         self.run_script = self.browser.execute_script
         self.browser.get("about:blank")
         self.errors()
-        self.resize(1200)
+        self.emulate(width=1200)
         self.browser.get(self.server.url)
         self.addCleanup(lambda: self.assertEqual(self.errors(), []))
 
     def errors(self):
         """What the console has had of errors since it was asked before."""
-        told = self.browser.get_log("browser")
-        return [it["message"] for it in told if it["level"] == "SEVERE"]
+        return [it for it in self.browser.get_log("browser") if it["level"] == "SEVERE"]
 
-    def emulate(self, what, **words):
-        """Shows the page as in a window of another size, or for a medium such as `print`."""
-        self.browser.execute_cdp_cmd(f"Emulation.{what}", words)
-
-    def resize(self, width):
+    def emulate(self, width, media=""):
+        """Shows the page as in a window of this width, or for a medium such as `print`."""
         size = {"width": width, "height": 900, "deviceScaleFactor": 1, "mobile": False}
-        self.emulate("setDeviceMetricsOverride", **size)
+        self.browser.execute_cdp_cmd("Emulation.setDeviceMetricsOverride", size)
+        self.browser.execute_cdp_cmd("Emulation.setEmulatedMedia", {"media": media})
 
     # ---- what is on the page
 
@@ -123,6 +121,9 @@ class Page(Explored):
         """Waits until a script returns something that is true, and gives it."""
         found = lambda browser: browser.execute_script(script, *words)
         return WebDriverWait(self.browser, MOST_OF_A_WAIT, BETWEEN).until(found, what)
+
+    def found(self, selector):
+        return self.browser.find_element("css selector", selector)
 
     def each(self, selector, expression):
         """The value of an expression for each element `it`."""
@@ -194,7 +195,7 @@ class Page(Explored):
 
     def click(self, selector, *shown):
         """Clicks on an element, and waits for what is to be shown then, if that is given."""
-        self.browser.find_element("css selector", selector).click()
+        self.found(selector).click()
         self.shows(*shown)
 
     def keys(self, *keys, shown=()):
@@ -205,9 +206,6 @@ class Page(Explored):
     def press(self, *points):
         for point in points:
             self.click(f".point:nth-of-type({point + 1})")
-
-    def click_move(self, move):
-        self.click(f"[data-move='{move}']")
 
     def choose(self, move):
         """Makes a move by clicks on the board, and looks at what is marked on the way."""
@@ -294,10 +292,10 @@ class Positions(Page):
         self.click("#back", "nine", text)
         self.click("#forward", *second)
         first = self.listed()[0][0]
-        listed = self.browser.find_element("css selector", f"[data-move='{first}']")
+        listed = self.found(MOVE.format(first))
         webdriver.ActionChains(self.browser).move_to_element(listed).perform()
         self.wait("an arrow", "return document.querySelector('.arrow line') !== null;")
-        self.click_move(first)
+        listed.click()
         self.has("#played", "it.includes(' ')")
         self.click("#start", "nine", text)
 
@@ -387,7 +385,7 @@ class Exercises(Page):
         board, text, mover = self.place()
         looked = self.looked(board, text)
         if mover == "white":
-            self.click_move(looked.best[0])
+            self.click(MOVE.format(looked.best[0]))
         self.leaves(board, text, mover)
         return mover, looked.value
 
@@ -404,7 +402,7 @@ class Exercises(Page):
         self.notes("The win is gone")
         self.click("#again")
         self.hides(text)
-        self.click_move(slow)
+        self.click(MOVE.format(slow))
         self.notes(f"{slower - depth} plies more than needed")
         self.click("#back", "nine", text)
         for _ in range(60):
@@ -421,7 +419,7 @@ class Exercises(Page):
         _, depth, [(fast, sooner)] = self.exercise("nine", "3-3/lost/10-26", soon)
         task = "White loses against best play. Hold out as long as you can."
         self.assertEqual(self.text("#task"), task)
-        self.click_move(fast)
+        self.click(MOVE.format(fast))
         self.notes(f"{depth - sooner} plies sooner than needed")
 
     def test_draw(self):
@@ -430,7 +428,7 @@ class Exercises(Page):
         text, _, [(bad, _)] = self.exercise("grid", "4-3/draw/1-9", "lost")
         self.click("#reveal")
         self.check("grid", text)
-        self.click_move(bad)
+        self.click(MOVE.format(bad))
         self.notes("The draw is gone")
         self.click("#on")
         self.has("#played", "it.includes(' ')")
@@ -505,7 +503,7 @@ class Access(Page):
 
     def test_narrow_window(self):
         """Nothing sticks out of a window of 360 pixels, in any of the modes."""
-        self.resize(360)
+        self.emulate(width=360)
         exercise = "#nine/find/4-3/won/5-99/7"
         for address in (f"#nine/{LONG}", "#nine/pair/4-3", exercise, "#grid/XXX.OO.O."):
             with self.subTest(address):
@@ -517,8 +515,7 @@ class Access(Page):
     def test_paper(self):
         """There are the board, the value and all moves, and nothing to press."""
         self.visit("nine", LONG)
-        self.emulate("setEmulatedMedia", media="print")
-        self.addCleanup(self.emulate, "setEmulatedMedia", media="")
+        self.emulate(1200, "print")
         for shown, selectors in ((True, "#board, #value, #moves"), (False, "nav, #steps, .text")):
             found = self.each(selectors, "it.checkVisibility()")
             self.assertEqual(found, [shown] * 3, selectors)

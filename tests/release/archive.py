@@ -38,35 +38,15 @@ OTHER_LOGS = (
 )
 
 
-def files():
-    """The files of the released archive."""
-    return packing.files_of(packing.archive_of(ROOT))
-
-
 class Digests(Case):
-    """Each digest that is told of release/ and of the files of its archive."""
-
-    def test_built_tells_of_archive_and_files(self):
-        found, told = files(), packing.told(ROOT)
+    def test_digests_that_are_told_of_the_release(self):
+        packed, told = packing.archive_of(ROOT), packing.told(ROOT)
         need(missing("ar"))
-        packed = packing.read(packing.archive_of(ROOT))
-        digests = {
-            "packed": packing.digest(packed),
-            "program": packing.digest(found[packing.PROGRAM]),
-            "library": packing.digest(packing.proved_part(found[packing.LIBRARY])),
-        }
-        # (releases up to 1.0.8 don't tell of the shared library)
-        if "shared" in told:
-            digests["shared"] = packing.digest(found[packing.SHARED])
-        self.assertEqual({name: told[name] for name in digests}, digests)
-        self.assertLessEqual(len(packed), packing.MOST_BYTES)
-
-    def test_lists_of_digests(self):
-        found, packed = files(), packing.archive_of(ROOT)
-        listed = packing.digests({os.path.basename(packed): packing.read(packed)})
+        # (its sources may be others)
+        found = {**packing.stamps(ROOT, packed), **{it: told[it] for it in ("sources", "interface")}}
+        self.assertEqual({it: told[it] for it in found}, found)
+        listed = packing.digests({told["archive"]: packing.read(packed)})
         self.assertEqual(packing.read(f"{ROOT}/{packing.SUMS}"), listed)
-        listed = {name: it for name, it in found.items() if name != "SHA256SUMS"}
-        self.assertEqual(found["SHA256SUMS"], packing.digests(listed))
 
 
 class Made(Unpacked, EmbedCase):
