@@ -10,14 +10,13 @@ import re
 import shutil
 import subprocess
 import sys
-from typing import NamedTuple
 
 from launcher.proving import ROOT
 
 KITS = ("rattle-kit-13b logic dac8208d650f15bf", "rattle-kit-13f logic dac8208d650f15bf")
 ONE_JOB = ["--jobs", "1"]
-# What the prover says of an answer in a proof that is refused, of a goal that has none, of a
-# function, after its goals, and of one whose goals it hasn't tried, since another is open.
+# What the prover says of an answer in a proof that is refused, of a goal that has none, and of a
+# function, after its goals.
 ANSWER = re.compile(
     r"(?:\./)?(proofs/(\S+?)(?:/\w+)?\.antt):\d+:\d+: error: (?:`([^`]*)`: )?(.*)"
 )
@@ -25,7 +24,6 @@ GOAL = re.compile(
     r"note: src/\S+: (?:it is not proved .*|`search` found no proof) \(`([^`]*)`\)(.*)"
 )
 FUNCTION = re.compile(r"fn (\S+): (?:.*`search` did not prove ([^;]*))?")
-WAITS = re.compile(r"note: `search` has not tried the goals of `(\S+)`")
 # What it says of an answer that waits for another, of one that names what isn't there, and of one
 # whose goal has another name now; of numbers at which an answer fails, and of a goal that is false.
 WAITED = re.compile(r"(was|were) not (admitted|checked)")
@@ -33,17 +31,6 @@ LOST = re.compile(r"has no field|is not in scope|has no `|is not a field")
 LOST_GOAL = re.compile(r"`goal\.\S+`: module `.*` has no `")
 FAILS = "the goal does not follow from what it read. All of that holds, and the goal fails, at"
 FALSE = "allow values at which this goal is false"
-
-
-class Open(NamedTuple):
-    """What the prover left open."""
-
-    # The goals, each with the path of its function.
-    goals: list
-    # The answers of another type than their goals, each with that path and its file.
-    unfit: list
-    # Whether anything was said but that a proof waits for another.
-    is_told: bool
 
 
 def kind_of(goal):
@@ -58,13 +45,13 @@ def is_proof_of(path, function):
     return is_last and path[:-1] == function[: len(path) - 1]
 
 
-def left_open(said, is_in=None):
-    """What the prover left open, in the functions that `is_in` has or in all. Where an answer
-    doesn't fit, its goal isn't one of those. Nor is a goal with no answer where an answer to one of
-    the same clause stands under the name of a goal that isn't there any more, unless it is known to
-    be false."""
-    is_in = is_in or (lambda names: True)
-    goals, unfit, lost, told, waits, here = [], [], [], [], [], []
+def left_open(said):
+    """What the prover left open: the goals, each with the path of its function, and the answers of
+    another type than their goals, each with that path and its file. Where an answer doesn't fit,
+    its goal isn't one of those. Nor is a goal with no answer where an answer to one of the same
+    clause stands under the name of a goal that isn't there any more, unless it is known to be
+    false."""
+    goals, unfit, lost, here = [], [], [], []
     # (what goes on below a line stands further right)
     for line in re.sub(r"\n {2,}", " ", said).splitlines():
         if answer := ANSWER.match(line):
@@ -74,12 +61,8 @@ def left_open(said, is_in=None):
                 lost.append((names, kind_of(name)))
             if FAILS in why:
                 goals.append((names, name))
-            elif not WAITED.search(why):
-                told.append(names)
-                if not LOST.search(why):
-                    unfit.append((names, name, file))
-        elif waiting := WAITS.match(line):
-            waits.append(waiting[1].split("::")[1:])
+            elif not WAITED.search(why) and not LOST.search(why):
+                unfit.append((names, name, file))
         elif goal := GOAL.match(line):
             here.append((goal[1], FALSE in goal[2]))
         elif function := FUNCTION.match(line):
@@ -88,12 +71,10 @@ def left_open(said, is_in=None):
             kinds = [kind for path, kind in lost if is_proof_of(path, names)]
             goals += [(names, it) for it, is_false in here if is_false or kind_of(it) not in kinds]
             here = []
-    goals = [it for it in goals if is_in(it[0])]
-    is_told = any(map(is_in, told)) and not any(map(is_in, waits))
-    return Open(goals, [it for it in unfit if is_in(it[0])], bool(goals) or is_told)
+    return goals, unfit
 
 
-def without(texts, folder, answers):
+def without_answers(texts, folder, answers):
     """These texts of files, without these answers in proofs, and without the names of places that
     nothing else there uses, which may be gone with them."""
     texts = dict(texts)
@@ -139,7 +120,7 @@ class Prover:
         """A checksum of the kit, of a crate and of those that it stands on."""
         return self.crates[crate].stamp()
 
-    def check(self, crate, edits, kept, answers=()):
+    def check(self, crate, edits, kept, without=()):
         """Checks a crate with these edits, without these answers. Gives the status, or None where
         the prover wasn't reached or couldn't read a text, and what was said."""
         crate, texts = self.crates[crate], {}
@@ -147,7 +128,8 @@ class Prover:
             texts, why = self.rt.edited("\n".join(it.text for it in edits), crate.folder)
             if why:
                 return None, why
-        ran = self.rt.checked(crate, without(texts, crate.folder, answers), ONE_JOB, kept)
+        texts = without_answers(texts, crate.folder, without)
+        ran = self.rt.checked(crate, texts, ONE_JOB, kept)
         lines = ran.stdout.rstrip("\n").split("\n")
         is_judged = lines[-1].startswith(("logic=proved", "logic=not-proved"))
         is_judged &= not any(self.rt.unread(it, texts) for it in lines)

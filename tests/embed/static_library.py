@@ -16,8 +16,6 @@ from tests.lib.steps import ARCHIVER, ROOT, is_there, without_c
 EMBED, CRATES = f"{ROOT}/embed", f"{ROOT}/crates"
 CRATE = "morris_c"
 MADE = f"{CRATES}/{CRATE}/out/lib{CRATE}.a"
-# What `rt ci` writes last of all.
-PRINTED = f"{os.path.dirname(BUILT)}/stdout.by-rattle"
 # What core.sh takes to unpack the library.
 UNPACKING = ("gzip", "tar", "sha256sum", ARCHIVER[0])
 NO_LIBRARY = "a library of these sources, built here or released"
@@ -25,35 +23,17 @@ NO_LIBRARY = "a library of these sources, built here or released"
 MOST_SECONDS = 3600
 
 
-def run(words, **how):
-    """What a command prints that builds something, or finds it."""
-    how = {"stdout": subprocess.PIPE, "text": True, "timeout": MOST_SECONDS, **how}
-    done = subprocess.run(words, **how)
-    if done.returncode:
-        said = f"ended with status {done.returncode}\n{done.stdout}"
-        raise AssertionError(f"{' '.join(words)}: {said}")
-    return done.stdout
-
-
 # ---- as the kit builds it
 
 
-def is_as_ci_left_it(crate):
-    """Whether the crate's library is there as `rt ci` made it, from the files as they are now, and
-    no other work is."""
-    folder = Path(CRATES, crate)
-    out = folder / "out"
-    made = out / "rlib" / f"{crate}.rlib"
-    kept = [out / "rlib" / "stamp", out / "incremental"]
-    if not made.is_dir() or any(it.exists() for it in kept):
-        return False
-    files = [it for part in ("src", "specs", "proofs") for it in (folder / part).rglob("*")]
-    return max(it.stat().st_mtime for it in files if it.is_file()) < made.stat().st_mtime
-
-
-def compile_over_ci():
+def build():
     """Builds the static library over what `rt ci` left of the crates below it, by the compiler as
-    `rt ci` calls it for a program. It proves the crate, and builds only what is proved."""
+    `rt ci` calls it for a program, since `rt lib` would prove all of them once more. It proves the
+    crate, builds only what is proved, and notes that it is of these sources."""
+    stamp = sources(ROOT)
+    if not is_of(BUILT, stamp):
+        raise AssertionError("the crates aren't as the gate proved them: .ci/run proves them anew")
+    Path(MADE).unlink(missing_ok=True)
     kit = os.path.dirname(os.path.dirname(os.path.realpath(shutil.which("rt"))))
     named, crates = libraries(), crates_below(CRATE)
     words = [f"{kit}/bin/rattle", "build", "--crate-name", CRATE, "src/lib.rt"]
@@ -68,26 +48,11 @@ def compile_over_ci():
     words += ["--logic-built", f"{kit}/logic_built", "--jobs", "2", "--links", f"{CRATE}="]
     words += ["--crate-type", "staticlib", "--toolchain", f"{kit}/toolchain", "--backend", "llvm"]
     words += ["-o", f"out/lib{CRATE}.a"]
-    said = run(words, cwd=f"{CRATES}/{CRATE}", stderr=subprocess.STDOUT)
-    verdict = [it for it in said.splitlines() if it.startswith("logic=")][-1:]
-    if not verdict or not verdict[0].startswith("logic=proved "):
-        raise AssertionError(f"the static library isn't proved: {verdict}")
-
-
-def build():
-    """Builds the static library by the kit, and notes that it is of these sources.
-
-    `rt lib` takes nothing of what `rt ci` did: it would prove all crates below once more. So it
-    does that only where what they left isn't what `rt ci` made of them.
-    """
-    stamp = sources(ROOT)
-    if not is_there("rt"):
-        raise AssertionError("the command rt of the kit, which builds the library, isn't there")
-    Path(MADE).unlink(missing_ok=True)
-    if all(map(is_as_ci_left_it, crates_below(CRATE))):
-        compile_over_ci()
-    else:
-        run(["rt", "lib"], cwd=f"{CRATES}/{CRATE}")
+    how = {"stdout": subprocess.PIPE, "stderr": subprocess.STDOUT, "text": True}
+    done = subprocess.run(words, cwd=f"{CRATES}/{CRATE}", timeout=MOST_SECONDS, check=False, **how)
+    verdict = [it for it in done.stdout.splitlines() if it.startswith("logic=")][-1:]
+    if done.returncode or not verdict or not verdict[0].startswith("logic=proved "):
+        raise AssertionError(f"the static library isn't proved: {done.stdout}")
     mark(MADE, stamp)
 
 
@@ -95,9 +60,9 @@ def build():
 
 
 def is_made_since():
-    """Whether the library was made after `rt ci` had come to its end."""
-    both = os.path.exists(MADE) and os.path.exists(PRINTED)
-    return both and os.path.getmtime(MADE) > os.path.getmtime(PRINTED)
+    """Whether the library was made after `rt ci` built the program."""
+    both = os.path.exists(MADE) and os.path.exists(BUILT)
+    return both and os.path.getmtime(MADE) > os.path.getmtime(BUILT)
 
 
 @functools.cache
@@ -113,7 +78,7 @@ def core():
         elif not is_of(MADE, sources(ROOT)):
             if not is_released() or not is_there(*UNPACKING):
                 return None
-            run([f"{EMBED}/packaging/core.sh"])
+            subprocess.run([f"{EMBED}/packaging/core.sh"], check=True, timeout=MOST_SECONDS)
     return MADE
 
 
@@ -127,7 +92,8 @@ def shared_library(out):
     released one; or None."""
     made = f"{out}/libmorris.so"
     if not without_static():
-        run(["make", "-s", "-C", EMBED, f"OUT={out}", "WERROR=-Werror", f"CORE={core()}", made])
+        words = ["make", "-s", "-C", EMBED, f"OUT={out}", "WERROR=-Werror", f"CORE={core()}", made]
+        subprocess.run(words, check=True, timeout=MOST_SECONDS)
         return made
     done = subprocess.run(["sh", f"{ROOT}/launcher/library"], stdout=subprocess.PIPE, text=True)
     if done.returncode:

@@ -70,10 +70,9 @@ class Clone:
 
     def without(self, name):
         """A folder of the commands but for this one."""
-        folder = tempfile.mkdtemp(dir=self.at)
-        for it in COMMANDS:
-            if it != name:
-                self.link(folder, it)
+        folder = f"{tempfile.mkdtemp(dir=self.at)}/commands"
+        shutil.copytree(self.commands, folder, symlinks=True)
+        os.remove(f"{folder}/{name}")
         return folder
 
 
@@ -106,21 +105,18 @@ class Copies(Case):
             **more,
         }
 
-    def started(self, words, before=(), **env):
+    def how(self, **env):
         count()
-        how = {"env": self.env(**env), "cwd": self.at, "stdin": subprocess.DEVNULL, "text": True}
-        how.update(stdout=subprocess.PIPE, stderr=subprocess.PIPE)
-        return subprocess.Popen([*before, *words], **how)
+        pipes = {"stdin": subprocess.DEVNULL, "stdout": subprocess.PIPE, "stderr": subprocess.PIPE}
+        return {"env": self.env(**env), "cwd": self.at, "text": True, **pipes}
 
-    def run_here(self, words, seconds=MOST_SECONDS, **how):
+    def started(self, words, before=(), **env):
+        return subprocess.Popen([*before, *words], **self.how(**env))
+
+    def run_here(self, words, before=(), seconds=MOST_SECONDS, **env):
         """The status, the output and the errors of a run, which ends in time."""
-        with self.started(words, **how) as it:
-            try:
-                output, errors = it.communicate(timeout=seconds)
-            except subprocess.TimeoutExpired:
-                it.kill()
-                raise
-        return it.returncode, output, errors
+        done = subprocess.run([*before, *words], timeout=seconds, **self.how(**env))
+        return done.returncode, done.stdout, done.stderr
 
     def as_nobody(self):
         """The words that run a command as somebody who may write nothing of the copy. Where nobody
