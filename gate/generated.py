@@ -1,10 +1,10 @@
 #!/usr/bin/env python3
 """Makes the parts of documents that come from the sources, the edits and the program's help.
 
-    python3 gate/generated.py            compares each part with what it has to be; the status is 1
-                                         where one differs
     python3 gate/generated.py --write    writes them anew; kinds after it are the only ones written,
                                          which needs no program unless `options` is among them
+
+tests/documents/claims.py compares each part with what it has to be.
 
 A part stands between a mark `<!-- from KIND WORDS -->`, of one line or more, and the next line
 `<!-- end -->`; in the man page these are comments of its own form. Kinds:
@@ -184,17 +184,14 @@ def made_anew(path, kinds=MAKERS):
 
 
 def main():
-    writes, kinds = sys.argv[1:2] == ["--write"], sys.argv[2:]
-    if sys.argv[1:] and not writes or not MAKERS.keys() >= {*kinds}:
+    kinds = sys.argv[2:]
+    if sys.argv[1:2] != ["--write"] or not MAKERS.keys() >= {*kinds}:
         sys.exit(__doc__)
-    made = {path: made_anew(path, kinds or MAKERS) for path in documents()}
-    differing = [path for path, (text, _) in made.items() if text != read(path)]
-    if differing and not writes:
-        said = "differs from what is made of the sources: python3 gate/generated.py --write"
-        sys.exit(f"{', '.join(differing)}: {said}")
-    for path in differing:
-        Path(ROOT, path).write_text(made[path][0], encoding="utf-8")
-    print(f"{sum(count for _, count in made.values())} parts of documents are made of the sources")
+    for path in documents():
+        made, _ = made_anew(path, kinds or MAKERS)
+        if made != read(path):
+            Path(ROOT, path).write_text(made, encoding="utf-8")
+            print(path)
 
 
 if __name__ == "__main__":

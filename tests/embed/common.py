@@ -145,11 +145,3 @@ def made_up(many=ASKED, stones=STONES, seed=SEED):
 @functools.cache
 def all_of_grid(pair=(3, 3)):
     return [text_of(it, GRID) for it in positions(pair)]
-
-
-def best_of(folder, text):
-    """What the examples print of a position: its value, and the first best move if there is one,
-    as `morris lookup` has them."""
-    line = run([MORRIS, "lookup", "nine", "--from", folder, text]).removeprefix(f"{text} ")
-    value, _, moves = line.rstrip("\n").partition(": ")
-    return "".join(f"{it}\n" for it in (value, *moves.split()[:1]))

@@ -12,7 +12,6 @@ import shutil
 from gate import packing
 from tests.embed.common import archive, need
 from tests.embed.static_library import without_static
-from tests.explorer.server import Server
 from tests.lib.steps import ROOT, missing
 from tests.release.clones import Clone, Copies, Unpacking, append, files_below, write
 
@@ -32,8 +31,6 @@ OTHER_FILES = (
     "the C files of embed/ aren't those of the released library: `make -C embed` compiles them"
 )
 NO_RELEASE = "there is no released library here: `make -C embed` makes one"
-# A player with three stones goes anywhere. By 3-2 this one has a mill, and leaves two stones.
-TEXT, VALUE, BEST = "XX.X...O.O.O............", "won in 1", "3-2"
 
 
 @functools.cache
@@ -120,17 +117,6 @@ class Released(Module, Unpacking):
         self.taken()
         names = sorted(map(os.path.basename, files_below(self.released)))
         self.assertEqual(names, ["libmorris.so.1", "morris"])
-
-    def test_explorer_answers_without_compiler(self):
-        words = [f"{self.top}/morris", "build", "nine", "3-3", "--classes", "--into"]
-        self.assertEqual(self.run_here([*words, f"{self.at}/tables"])[0], 0)
-        words = [self.python, f"{self.top}/embed/explorer.py", f"{self.at}/tables"]
-        with Server(*words, env=self.env(), cwd=self.at) as server:
-            found = server.ask("/api/position", board="nine", text=TEXT)
-        path = f"{self.released}/{packing.told(self.top)['shared']}/libmorris.so.1"
-        self.assertEqual(server.library, f"{path}, {RELEASED}")
-        self.assertEqual(f"{found['result']} in {found['depth']}", VALUE)
-        self.assertIn(BEST, {it["move"].split("x")[0] for it in found["moves"] if it["best"]})
 
     def test_release_without_second_stamp_or_none_is_passed_over(self):
         built = f"{self.top}/{packing.BUILT}"
@@ -248,15 +234,3 @@ class Changes(Module):
         found = self.library(MORRIS_LIBRARY=self.built)
         self.assertEqual(found, ("which MORRIS_LIBRARY names", self.built))
         self.refused("MORRIS_LIBRARY", "/nowhere/it.so", MORRIS_LIBRARY="/nowhere/it.so")
-
-    def test_module_that_is_installed_takes_what_is_beside_it(self):
-        _, path = self.library()
-        place = f"{self.at}/installed"
-        for near in ("site", "lib"):
-            with self.subTest(near):
-                os.makedirs(f"{place}/site")
-                shutil.copy(f"{self.top}/embed/morris.py", f"{place}/site")
-                write(f"{place}/{near}/libmorris.so.1", packing.read(path), 0o755)
-                found = self.library(PYTHONPATH=f"{place}/site")
-                self.assertEqual(found, ("beside the module", f"{place}/{near}/libmorris.so.1"))
-                shutil.rmtree(place)

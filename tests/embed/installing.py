@@ -7,13 +7,12 @@ import subprocess
 import sys
 
 from gate.packing import read
-from tests.embed.common import EMBED, MOST_SECONDS, EmbedCase, archive, bare, best_of, folders
-from tests.embed.common import lacks, made_up, make, need, out, run
-from tests.embed.packages import asks_elsewhere
+from tests.embed.common import EMBED, MOST_SECONDS, EmbedCase, archive, bare, folders
+from tests.embed.common import lacks, make, need, out, run
 from tests.lib.program import COUNTED, ROOT
 from tests.lib.steps import C_COMPILER
 from tests.release.clones import files_below
-from tests.release.unpacked import flags_of, printed_in_c, serves, unpacked
+from tests.release.unpacked import BEST, TEXT, flags_of, printed_in_c, serves, unpacked
 
 GRID = "XXX.OO.O."
 # What is linked to, and nothing that runs takes.
@@ -47,10 +46,8 @@ class Installed:
                 self.assertEqual(oct(os.stat(path).st_mode & 0o777), oct(expected), below)
 
     def test_program_explorer_and_an_example_in_c(self):
-        text = next(it for it in made_up() if it.count("X") > 2)
-        words = (f"{EMBED}/examples/best.c", folders()[1], text)
-        found = printed_in_c(self.room, self.prefix, *words)
-        self.assertEqual(found, best_of(folders()[1], text))
+        words = (f"{EMBED}/examples/best.c", folders()[1], TEXT)
+        self.assertEqual(printed_in_c(self.room, self.prefix, *words), BEST)
         stats = run([f"{self.prefix}/bin/morris", "stats", "grid", "3-3"], env=bare())
         self.assertEqual(stats, COUNTED.decode())
         serves(f"{self.prefix}/bin/morris-explorer", folders()[1])
@@ -61,7 +58,9 @@ class Installed:
         for it in TO_LINK:
             os.remove(f"{self.prefix}/{it}")
         (module,) = [it for it in files_below(f"{self.prefix}/lib") if it.endswith("/morris.py")]
-        asks_elsewhere(self, sys.executable, PYTHONPATH=os.path.dirname(module))
+        words = [sys.executable, f"{EMBED}/examples/best.py", folders()[1], TEXT]
+        found = run(words, env=bare(PYTHONPATH=os.path.dirname(module)), cwd="/")
+        self.assertEqual(found, BEST)
 
     def test_library_exports_what_its_headers_declare(self):
         headers = [f"{self.prefix}/include/{it}" for it in ("morris.h", "morris_folder.h")]

@@ -3,8 +3,6 @@ these sources, as whoever unpacks one would try it; and what release/BUILT says 
 and the record of a gate."""
 
 import os
-import subprocess
-import sys
 
 from gate import packing
 from tests.embed.common import EmbedCase, archive, make, need, out, run
@@ -74,16 +72,6 @@ class Released(Unpacked, Case):
         if is_from_proofs() and told["kit"] == packing.kit():
             for name, path in (("program", MORRIS), ("library", core())):
                 self.assertEqual(packing.digest(packing.read(path)), told[name], name)
-
-    def test_worked_runs(self):
-        """The worked runs, which go over another program of these sources elsewhere."""
-        program = f"{self.top}/{packing.PROGRAM}"
-        if packing.read(program) == packing.read(MORRIS):
-            return
-        suite = [sys.executable, "-B", "-m", "tests.lib.suite", "cli.worked_runs"]
-        env = {**os.environ, "MORRIS_PROGRAM": program}
-        done = subprocess.run(suite, cwd=ROOT, env=env, capture_output=True, text=True)
-        self.assertEqual(done.returncode, 0, done.stdout)
 
 
 class Gates(Case):
