@@ -28,8 +28,8 @@ PROGRAM, LIBRARY, SHARED = "libexec/morris/morris", "lib/libmorris.a", "lib/libm
 COMPILED = ("morris_faults.o", "morris_folder.o", "morris_tables.o")
 # The last lines of `rt ci` in the log of a gate, and the last one of `.ci/run`.
 GATE = re.compile(
-    r"^rt: ok; (.*)\n([1-9]\d* passed, 0 failed)\nrt ci: (\S+) minutes\n"
-    r".*^gate: sources (\d+ \d+), (\d+ processors), (\S+) minutes\n\Z",
+    r"^rt: ok; ([^\n]*)\n.*?^([1-9]\d* passed, 0 failed)\n.*?^rt ci: (\S+) minutes\n"
+    r".*^gate: sources (\d+ \d+), (\d+ processors), (\S+) minutes$",
     re.MULTILINE | re.DOTALL,
 )
 

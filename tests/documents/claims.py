@@ -21,7 +21,7 @@ from tests.embed.packages import shown_programs
 from tests.embed.static_library import NO_LIBRARY, shared_library, without_static
 from tests.explorer.server import Server
 from tests.lib.case import Case
-from tests.lib.program import MORRIS, ROOT, count
+from tests.lib.program import MORRIS, MOST_SECONDS, ROOT, count
 from tests.lib.steps import missing
 
 SHOWN = ["README.md", "docs/FAQ.md", "docs/COMMANDS.md", "docs/METHOD.md", "embed/README.md"]
@@ -38,6 +38,8 @@ VERSIONED = {
 COMPILED = ("make ", "cc ", "c++ ", "embed/out/", "./game")
 IN_PYTHON = ("python3 ", "PYTHONPATH=")
 RUN = ("./morris ", "cat ", "printf ", "cmp ", *COMPILED, *IN_PYTHON)
+# A command that a document shows, and the lines behind it.
+EXAMPLE = re.compile(r"^    \$ (.*)\n((?:    (?!\$ ).*\n)*)", re.MULTILINE)
 # A document is named by its path, or by its name beside another.
 NAMED = re.compile(
     r"`((?:docs|tests|launcher|gate|bench|crates)/[A-Za-z_0-9./]+|[A-Z][A-Za-z_]+\.md)`"
@@ -53,18 +55,11 @@ VECTOR = re.compile(
 
 
 def examples_of(text):
-    """The commands that a document shows and that are run, each with the lines that it prints."""
-    found, printed = [], None
-    for line in text.splitlines():
-        shown = line[4:] if line.startswith("    ") else None
-        if shown is None:
-            printed = None
-        elif shown.startswith("$ "):
-            printed = []
-            found.append((re.sub(r"\s+# .*", "", shown[2:]), printed))
-        elif printed is not None:
-            printed.append(shown)
-    return [it for it in found if it[0].startswith(RUN) and "--progress" not in it[0]]
+    """The commands that a document shows and that are run, each with what it prints."""
+    for command, printed in EXAMPLE.findall(text):
+        command = re.sub(r"\s+# .*", "", command)
+        if command.startswith(RUN) and "--progress" not in command:
+            yield command, re.sub("^    ", "", printed, flags=re.MULTILINE)
 
 
 class Examples(Case):
@@ -94,7 +89,7 @@ class Examples(Case):
 
     def test_examples(self):
         for path in SHOWN:
-            examples = examples_of(read(path))
+            examples = list(examples_of(read(path)))
             self.assertTrue(examples, f"{path}: shows no example")
             for command, printed in examples:
                 with self.subTest(f"{path}: {command}"):
@@ -106,14 +101,10 @@ class Examples(Case):
                         Server(sys.executable, *shlex.split(command)[1:], **self.how).end()
                         continue
                     words = ["bash", "-c", f"set -eo pipefail; {command}"]
-                    self.same_run(words, "".join(f"{line}\n" for line in printed))
-
-    def same_run(self, words, expected):
-        """Runs a command without input, which has to print this and nothing else."""
-        how = {"stdin": subprocess.DEVNULL, "capture_output": True, **self.how}
-        done = subprocess.run(words, timeout=300, check=False, **how)
-        found = done.returncode, done.stdout.decode(), done.stderr
-        self.same(words[-1], found, (0, expected, b""))
+                    how = {"stdin": subprocess.DEVNULL, "capture_output": True, **self.how}
+                    done = subprocess.run(words, timeout=MOST_SECONDS, check=False, **how)
+                    found = done.returncode, done.stdout.decode(), done.stderr
+                    self.same(command, found, (0, printed, b""))
 
 
 class Program(Case):

@@ -27,12 +27,11 @@ TOLD = (
     "65 passed, 0 failed on 4 processors in 40.2 minutes, of which rt ci took 35.9: handles "
     "allowed: Threads, done in this run: 5 of the 65 proofs"
 )
-# Of a gate that failed, or ran over other sources, or was begun once more.
+# Of a gate that failed, or ran over other sources.
 OTHER_LOGS = (
     LOG.replace("rt: ok;", "rt: FAILED: morris_moves;").replace("0 failed\n", "1 failed\n"),
     LOG.partition("gate: ")[0],
     LOG.replace("sources 1 2", "sources 1 3"),
-    LOG + LOG.partition("gate: ")[0],
 )
 
 
