@@ -111,13 +111,6 @@ class Released(Module, Unpacking):
         os.symlink(f"{self.top}/embed", f"{self.at}/linked")
         self.assertEqual(self.library(PYTHONPATH=f"{self.at}/linked")[0], RELEASED)
 
-    def test_library_stands_beside_program(self):
-        """The launcher and the module unpack each its own file, and leave the other's alone."""
-        self.assertEqual(self.run_here([f"{self.top}/morris", "--version"])[0], 0)
-        self.taken()
-        names = sorted(map(os.path.basename, files_below(self.released)))
-        self.assertEqual(names, ["libmorris.so.1", "morris"])
-
     def test_release_without_second_stamp_or_none_is_passed_over(self):
         built = f"{self.top}/{packing.BUILT}"
         lines = packing.read(built).decode().splitlines(keepends=True)
