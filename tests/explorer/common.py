@@ -1,5 +1,5 @@
-"""What suites of the explorer share: its server over tables, and what the program prints of the same
-positions."""
+"""What suites of the explorer share: its server over tables, and what the program prints of the
+same positions."""
 
 import os
 import re
