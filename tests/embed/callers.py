@@ -14,7 +14,7 @@ from tests.embed.common import EMBED, SEED, EmbedCase, all_of_grid, compare
 from tests.embed.common import folders, lacks, made_up, make, need, out, run
 from tests.lib.program import MORRIS
 from tests.lib.rules import BOARDS, text_of
-from tests.lib.steps import C_COMPILER, CPP_COMPILER, is_there
+from tests.lib.steps import is_there
 from tests.lib.tables import damaged
 
 # The callers in each language, of which the first answers what `morris lookup --moves` does, and
@@ -60,16 +60,8 @@ def sanitizer(room):
 
 
 class Callers(EmbedCase):
-    """The callers in tests/ of embed, which compare what they are answered themselves."""
-
-    def test_each_header_compiles_alone(self):
-        for header in ("morris.h", "morris_folder.h"):
-            for kind, compiler, how in (("c", C_COMPILER, "c99"), ("c++", CPP_COMPILER, "c++17")):
-                with self.subTest(header, language=kind):
-                    need(None if is_there(compiler[0]) else f"a compiler ({' '.join(compiler)})")
-                    words = [*compiler, "-x", kind, f"-std={how}", "-Wall", "-Wextra", "-Werror"]
-                    words += ["-pedantic", "-fsyntax-only", f"-I{EMBED}", "-"]
-                    run(words, input=f'#include "{header}"\n')
+    """The callers in tests/ of embed, which compare what they are answered themselves. In C and in
+    C++ there is one that includes each header before any other."""
 
     def test_callers_that_are_compiled(self):
         for language in CALLERS:

@@ -79,7 +79,8 @@ def out():
 
 def make(*words, to=None, **how):
     """What `make` prints that compiles over the proved static library into a folder."""
-    fixed = [f"OUT={to or out()}", f"CORE={core()}", f"PROGRAM={MORRIS}", "WERROR=-Werror"]
+    fixed = [f"OUT={to or out()}", f"CORE={core()}", f"PROGRAM={MORRIS}"]
+    fixed.append("WERROR=-Werror -pedantic")
     return run(["make", "-s", "-C", EMBED, *fixed, *words], **how)
 
 
