@@ -12,7 +12,8 @@ from tests.embed.common import lacks, make, need, out, run
 from tests.lib.program import COUNTED, ROOT
 from tests.lib.steps import C_COMPILER
 from tests.release.clones import files_below
-from tests.release.unpacked import BEST, TEXT, flags_of, printed_in_c, serves, unpacked
+from tests.release.unpacked import BEST, TEXT, best_elsewhere, flags_of, printed_in_c
+from tests.release.unpacked import serves, unpacked
 
 GRID = "XXX.OO.O."
 # What is linked to, and nothing that runs takes.
@@ -58,9 +59,8 @@ class Installed:
         for it in TO_LINK:
             os.remove(f"{self.prefix}/{it}")
         (module,) = [it for it in files_below(f"{self.prefix}/lib") if it.endswith("/morris.py")]
-        words = [sys.executable, f"{EMBED}/examples/best.py", folders()[1], TEXT]
-        found = run(words, env=bare(PYTHONPATH=os.path.dirname(module)), cwd="/")
-        self.assertEqual(found, BEST)
+        where = {"PYTHONPATH": os.path.dirname(module)}
+        self.assertEqual(best_elsewhere(sys.executable, folders()[1], **where), BEST)
 
     def test_library_exports_what_its_headers_declare(self):
         headers = [f"{self.prefix}/include/{it}" for it in ("morris.h", "morris_folder.h")]

@@ -14,7 +14,7 @@ from tests.embed.static_library import core
 from tests.lib.program import ROOT
 from tests.lib.steps import RUST_COMPILER, missing
 from tests.release.clones import files_below
-from tests.release.unpacked import BEST, TEXT, environment, pip
+from tests.release.unpacked import BEST, TEXT, best_elsewhere, environment, pip
 
 # What the programs of embed/README.md are named, by the language.
 SHOWN = {"c": "game.c", "python": "game.py", "rust": "game.rs"}
@@ -71,8 +71,7 @@ class PackageForPython(EmbedCase):
         python = environment(f"{self.make_room()}/it")
         words = ("install", "--no-index", "--no-build-isolation", EMBED)
         pip(python, *words, CORE=core(), OUT=out())
-        words = [python, f"{EMBED}/examples/best.py", folders()[1], TEXT]
-        self.assertEqual(run(words, env=bare(), cwd="/"), BEST)
+        self.assertEqual(best_elsewhere(python, folders()[1]), BEST)
         code = "import morris.explorer, os; print(os.path.dirname(morris.explorer.__file__))"
         installed = run([python, "-c", code], env=bare(), cwd="/").strip()
         for it in (it for it in files_below(f"{EMBED}/explorer") if not it.endswith(".pyc")):

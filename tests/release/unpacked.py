@@ -12,7 +12,7 @@ import venv
 from glob import glob
 
 from gate.packing import read
-from tests.embed.common import bare, compare, need, new_room, run
+from tests.embed.common import EMBED, bare, compare, need, new_room, run
 from tests.explorer.server import Server
 from tests.lib.program import COUNTED, LOOKED
 from tests.lib.steps import C_COMPILER, NO_PIP, missing, without_c
@@ -84,6 +84,12 @@ def environment(place):
 
 def pip(python, *words, **env):
     return run([python, "-m", "pip", "-q", "--disable-pip-version-check", *words], env=bare(**env))
+
+
+def best_elsewhere(python, folder, **env):
+    """What a copy of the example in Python prints that has no module beside it."""
+    example = shutil.copy(f"{EMBED}/examples/best.py", new_room())
+    return run([python, example, folder, TEXT], env=bare(**env), cwd="/")
 
 
 def serves(*words):
@@ -180,8 +186,7 @@ class Unpacked:
     def test_example_and_explorer_by_the_wheel(self):
         python = environment(f"{self.make_room()}/environment")
         pip(python, "install", "--no-index", *glob(f"{self.top}/python/*.whl"))
-        words = [python, f"{self.top}/examples/best.py", self.tables(), TEXT]
-        self.assertEqual(run(words, env=bare(), cwd="/"), BEST)
+        self.assertEqual(best_elsewhere(python, self.tables()), BEST)
         serves(python, "-m", "morris.explorer", self.tables())
 
     def test_example_in_rust(self):
