@@ -14,7 +14,7 @@ import tempfile
 from datetime import datetime, timezone
 from pathlib import Path
 
-from tests.lib.steps import ROOT, is_there
+from tests.lib.steps import ROOT
 
 sys.path.insert(0, f"{ROOT}/embed/packaging")
 from dist import digests, write_archive
@@ -37,8 +37,7 @@ GATE = re.compile(
 def sources(root, *words):
     """The checksum of the sources, or of what the word `interface` stands for, or, by the word
     `names`, the sources' names."""
-    done = subprocess.run([f"{root}/launcher/sources", *words], stdout=subprocess.PIPE, check=True)
-    return done.stdout.decode().strip()
+    return said(f"{root}/launcher/sources", *words).strip()
 
 
 def mark(path, stamp):
@@ -52,9 +51,7 @@ def is_of(path, stamp):
 
 
 def said(*words):
-    """What a command prints, or nothing where it isn't there."""
-    if not is_there(words[0]):
-        return ""
+    """What a command prints."""
     return subprocess.run(words, stdout=subprocess.PIPE, check=True).stdout.decode()
 
 
@@ -107,11 +104,9 @@ def small_archive(folder, program):
     return str(path)
 
 
-def make_archive(out, *words, **how):
+def make_archive(out, *words):
     """What `make dist` makes in a folder: the path of the archive."""
-    words = ["make", "-s", "-C", f"{ROOT}/embed", f"OUT={out}", *words, "dist"]
-    done = subprocess.run(words, stdout=subprocess.PIPE, check=True, text=True, **how)
-    return done.stdout.split()[-1]
+    return said("make", "-s", "-C", f"{ROOT}/embed", f"OUT={out}", *words, "dist").split()[-1]
 
 
 def stamps(root, archive):
