@@ -128,8 +128,8 @@ class Prover:
             texts, why = self.rt.edited("\n".join(it.text for it in edits), crate.folder)
             if why:
                 return None, why
-        texts = without_answers(texts, crate.folder, without)
-        ran = self.rt.checked(crate, texts, ONE_JOB, kept)
+        given = without_answers(texts, crate.folder, without)
+        ran = self.rt.checked(crate, given, ONE_JOB, kept)
         lines = ran.stdout.rstrip("\n").split("\n")
         is_judged = lines[-1].startswith(("logic=proved", "logic=not-proved"))
         is_judged &= not any(self.rt.unread(it, texts) for it in lines)
