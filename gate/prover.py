@@ -120,14 +120,14 @@ class Prover:
         """A checksum of the kit, of a crate and of those that it stands on."""
         return self.crates[crate].stamp()
 
-    def check(self, crate, edits, kept, without=()):
-        """Checks a crate with these edits, without these answers. Gives the status, or None where
-        the prover wasn't reached or couldn't read a text, and what was said."""
-        crate, texts = self.crates[crate], {}
-        if edits:
-            texts, why = self.rt.edited("\n".join(it.text for it in edits), crate.folder)
-            if why:
-                return None, why
+    def check(self, crate, edit, kept, without=()):
+        """Checks a crate with this text of an edit, or as it is, without these answers. Gives the
+        status, or None where the prover wasn't reached or couldn't read a text, and what was
+        said."""
+        crate = self.crates[crate]
+        texts, why = self.rt.edited(edit, crate.folder) if edit else ({}, None)
+        if why:
+            return None, why
         given = without_answers(texts, crate.folder, without)
         ran = self.rt.checked(crate, given, ONE_JOB, kept)
         lines = ran.stdout.rstrip("\n").split("\n")
