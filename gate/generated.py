@@ -64,9 +64,8 @@ def parts_of(path):
     """The generated parts of a document, as matches."""
     text = read(path)
     parts = list((MAN if path.endswith(".1") else MARKDOWN).finditer(text))
-    for mark in BEGUN.finditer(text):
-        if mark.start() not in [it.start() for it in parts]:
-            sys.exit(f"{path}: {mark[0]} has no end")
+    if len(parts) != len(BEGUN.findall(text)):
+        sys.exit(f"{path}: a generated part has no end")
     return parts
 
 
