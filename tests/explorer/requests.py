@@ -1,6 +1,7 @@
 """Asks the explorer what it has to refuse, and asks it by many clients at once: hostile requests,
 requests that were changed by chance, slow clients, damaged files, and arguments."""
 
+import http.client
 import itertools
 import json
 import os
@@ -15,7 +16,7 @@ from pathlib import Path
 from tests.embed.common import EMBED, SEED, STONES, all_of_grid, made_up
 from tests.explorer.answers import answer_for
 from tests.explorer.common import Explored
-from tests.lib.program import Answer, Begins
+from tests.lib.program import Answer, Begins, count
 from tests.lib.steps import ROOT
 from tests.lib.tables import own_tables
 
@@ -198,11 +199,22 @@ class Requests(Explored):
         return int(re.search(rf"^{name}:\s+(\d+)", lines, re.MULTILINE)[1])
 
     def make_load(self, asked, requests):
-        """So many requests by all clients at once."""
-        paths = itertools.islice(itertools.cycle(asked), requests)
-        compare = lambda path: self.assertEqual(self.server.ask(path), asked[path], path)
+        """So many requests by all clients at once, each over a connection that is kept."""
+
+        def wrong(first):
+            link = http.client.HTTPConnection("127.0.0.1", self.server.port, timeout=60)
+            paths = itertools.islice(itertools.cycle(asked), first, first + requests // CLIENTS)
+            for path in paths:
+                link.request("GET", path)
+                answer = link.getresponse()
+                content = answer.read()
+                if answer.status != 200 or json.loads(content) != asked[path]:
+                    return f"{path}: {answer.status} {content}, not {asked[path]}"
+            link.close()
+
+        count(requests)
         with ThreadPoolExecutor(CLIENTS) as pool:
-            list(pool.map(compare, paths))
+            self.assertEqual(list(filter(None, pool.map(wrong, range(CLIENTS)))), [])
 
     # ---- what it begins with
 
