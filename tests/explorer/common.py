@@ -76,5 +76,8 @@ class Explored(EmbedCase):
     def deepest(self, board, pair):
         """The deepest win and the deepest loss of a pair, as far as there are such, each the first
         of several: the values by the texts."""
-        said = self.shown(["stats", board, pair, "--from", self.folder, "--deepest"])
-        return dict(re.findall(r"^deepest \w+: (\S+) (.*)$", said, re.MULTILINE))
+        first = {}
+        texts = self.shown(["find", board, pair, "deepest", "--from", self.folder]).split()
+        for text, looked in self.looked_up(board, texts).items():
+            first.setdefault(looked.value, text)
+        return {text: value for value, text in first.items()}
