@@ -1,51 +1,51 @@
-"""Runs whose arguments, input and exact answer are written down in worked_runs.txt, and others that
-can't be written there: arguments that no shell gives, and moves on the board nine and deepest
-positions as tests/lib/rules.py gives them.
+"""Runs whose arguments, input and answer are written down in worked_runs.txt, and others that can't
+be written there: arguments that no shell gives, and moves on the board nine and deepest positions
+as tests/lib/rules.py gives them. The help, whose lines are no longer than a terminal is wide, and
+whose examples print what stands below them.
 """
 
+import os
+import re
 import shlex
 from pathlib import Path
 
 from tests.lib.case import Case
 from tests.lib.preload import library
-from tests.lib.program import COUNTED, LOOKED, USAGE_ERROR, Answer, Run, Stream, fault
+from tests.lib.program import COUNTED, LOOKED, MORRIS, USAGE_ERROR, Answer, Has, Run, Stream
+from tests.lib.program import fault, run
 from tests.lib.rules import GRID, GRID_PAIRS, NINE, deepest, look, name_of, solved, stats
-from tests.lib.tables import grid_files
+from tests.lib.tables import grid_files, tables
 
 LOOK = ["look", "grid", "XXX.OO.O.", "--depth", "3"]
 # There are more runs than this in worked_runs.txt.
 MANY = 400
 NOT_TEXT = Answer(2, b"", b"error: a word of the command line is not text\n")
-TRY_HELP = "For more information, try '--help'.\n"
-# What is printed for misspelt arguments.
-MISSPELT = {
-    "lok grid": (
-        "error: unrecognized subcommand 'lok'\n\n"
-        "  tip: some similar subcommands exist: 'lookup', 'look'\n\n"
-        f"Usage: morris <COMMAND>\n\n{TRY_HELP}"
-    ),
-    "look grid X --dept 7": (
-        "error: unexpected argument '--dept' found\n\n"
-        "  tip: a similar argument exists: '--depth'\n\n"
-        f"Usage: morris look --depth <N> <BOARD> <TEXT>\n\n{TRY_HELP}"
-    ),
-}
+# No line of the help has more characters.
+MOST_CHARACTERS = 100
+# An example in the help, and what it prints.
+EXAMPLE = re.compile(r"^  \$ (morris .*)\n((?:  (?!\$).*\n)*)", re.MULTILINE)
+COMMANDS = ("look", "stats", "build", "verify", "probe", "lookup", "find")
 
 
 def written_runs():
     """The runs of worked_runs.txt."""
     files = {**grid_files(), "more": b"more"}
+    folders = {"SMALLER": tables("grid", "5-4", True), "FOLDER": tables("grid", "5-4")}
     for block in Path(__file__).with_suffix(".txt").read_text(encoding="utf-8").split("\n\n"):
         lines = [it for it in block.split("\n") if it and not it.startswith("#")]
-        asked = [shlex.split(it[1:]) for it in lines if it.startswith("$")]
         errors = "".join(f"{it[2:]}\n" for it in lines if it.startswith("! ")).encode()
-        output = "".join(f"{it}\n" for it in lines if it[0] not in "$!").encode()
-        for words in asked:
-            words, shown = split(words, ">", files)
+        texts = Has("".join(f"{it[2:]}\n" for it in lines if it.startswith("~ ")).encode())
+        output = "".join(f"{it}\n" for it in lines if it[0] not in "$!~").encode()
+        for line in (it[1:] for it in lines if it.startswith("$")):
+            for name, folder in folders.items():
+                line = line.replace(name, folder)
+            words, shown = split(shlex.split(line), ">", files)
             words, given = split(words, "<", files)
-            expected = Answer(int(b"fault " in errors), output + shown, errors)
-            is_error = errors.startswith(USAGE_ERROR.errors)
-            yield Run(words, USAGE_ERROR if is_error else expected, given)
+            expected = Answer(int(b"fault " in errors), texts or output + shown, errors)
+            if errors.startswith(USAGE_ERROR.errors):
+                whole = USAGE_ERROR._replace(errors=Has(errors))
+                expected = USAGE_ERROR if errors == b"error: ..\n" else whole
+            yield Run(words, expected, given)
 
 
 def split(words, mark, files):
@@ -63,8 +63,37 @@ class Written(Case):
         self.expect_all(runs)
 
 
+class Help(Case):
+    """The pages of the help."""
+
+    def test_each_page_in_any_way_it_is_asked_for(self):
+        for command in COMMANDS:
+            page = self.shown(["help", command])
+            self.assertLessEqual(max(map(len, page.splitlines())), MOST_CHARACTERS, command)
+            for words in ([command, "--help"], [command, "grid", "--help"]):
+                self.assertEqual(self.shown(words), page, words)
+        for words in (["-h"], ["help"]):
+            self.assertEqual(self.shown(words), self.shown(["--help"]), words)
+
+    def test_examples(self):
+        """In a folder in which those of a page leave files to the next."""
+        room = self.make_room()
+        os.symlink(MORRIS, f"{room}/morris")
+        how = {"program": "bash", "cwd": room}
+        how["env"] = {**os.environ, "PATH": f"{room}:{os.environ['PATH']}"}
+        for command in ("build", *COMMANDS, ""):
+            page = self.shown([*command.split(), "--help"])
+            examples = EXAMPLE.findall(page)
+            self.assertTrue(examples, page)
+            for line, printed in examples:
+                done = run(["-c", f"set -o pipefail; {line}"], **how)
+                self.assertEqual((done.status, done.errors), (0, b""), line)
+                if printed:
+                    self.assertEqual(re.sub("(?m)^", "  ", done.output.decode())[:-2], printed)
+
+
 class Arguments(Case):
-    """Arguments that no shell gives as such, and misspelt ones."""
+    """Arguments that no shell gives as such."""
 
     def test_long_arguments(self):
         long = 10_000 * "X"
@@ -85,10 +114,6 @@ class Arguments(Case):
             ["build", "grid", "3-3", "--workers", "1", "--blocks", "5", b"\xc0\xaf"],
         ):
             self.expect(words, NOT_TEXT)
-
-    def test_misspelt_arguments(self):
-        for line, printed in MISSPELT.items():
-            self.expect(line.split(), (2, b"", printed.encode()))
 
 
 class ByTheRules(Case):

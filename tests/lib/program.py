@@ -55,6 +55,20 @@ class Begins(bytes):
     __hash__ = bytes.__hash__
 
 
+class Has(bytes):
+    """Lines of which each occurs in the text, in this order, also as a part of a line there."""
+
+    def __eq__(self, other):
+        place = 0
+        for line in self.splitlines():
+            place = other.find(line, place) + len(line)
+            if place < len(line):
+                return False
+        return True
+
+    __hash__ = bytes.__hash__
+
+
 class Answer(NamedTuple):
     """What a run of the program answered."""
 

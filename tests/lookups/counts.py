@@ -10,12 +10,9 @@ import itertools
 from pathlib import Path
 
 from tests.lib.case import Case
-from tests.lib.program import COUNTED, USAGE_ERROR, fault
 from tests.lib.rules import GRID, GRID_PAIRS, csv, entries, file_of, find, in_words, name_of, solved
 from tests.lib.rules import stats
 from tests.lib.tables import tables
-
-NO_VALUE = "39: not a value: draw, won, lost, won in D, lost in D or deepest"
 
 
 def folder_of(pair, classes=False):
@@ -64,40 +61,3 @@ class Grid(Case):
             texts = "".join(f"{it}\n" for it in find(codes, nodes, GRID, value, version == 2))
             words = ["find", "grid", "3-3", "--from", folder, value, "--all"]
             self.expect(words, (0, texts.encode(), b""))
-
-
-class Arguments(Case):
-    """In which order arguments may stand, and in which they are looked at."""
-
-    def test_options_before_between_and_after_the_others(self):
-        fields = b"3,3,draw,,600\n3,3,won,1,936\n3,3,won,3,108\n3,3,lost,2,36\n"
-        fields = b"own,other,result,depth,positions\n" + fields
-        lost, folder = b"XXOX..O.O\nXOXX..OO.\n", folder_of((3, 3))
-        for words, expected in (
-            (["stats", "--csv", "grid", "3-3", "--blocks", "5", "--workers", "1"], fields),
-            (["stats", "grid", "--from", folder, "3-3"], COUNTED),
-            (["stats", f"--from={folder}", "grid", "3-3", "--csv"], fields),
-            (["find", "grid", "3-3", "lost in 2", "--count", "--from", folder], b"36\n"),
-            (["find", "--from", folder, "--all", "grid", "3-3", "--count", "deepest"], b"144\n"),
-            (["find", "grid", "--limit", "2", "3-3", "--from", folder, "lost", "--all"], lost),
-            (["find", "--limit=2", "--all", "--from", folder, "--", "grid", "3-3", "lost"], lost),
-        ):
-            self.expect(words, (0, expected, b""))
-
-    def test_board_pair_and_value_come_before_the_folder_and_that_before_the_file(self):
-        folder = folder_of((3, 3))
-        for words, text in (
-            (["stats", "round", "33", "--from", ""], "25: no such board"),
-            (["stats", "grid", "3-2", "--from", ""], "4: bad counts"),
-            (["find", "round", "33", "Won", "--from", ""], "25: no such board"),
-            (["find", "grid", "5-5", "Won", "--from", ""], "5: more stones than points"),
-            (["find", "grid", "3-3", "Won", "--from", ""], NO_VALUE),
-            (["find", "grid", "3-3", "won in -1", "--from", folder], NO_VALUE),
-            (["stats", "grid", "4-4", "--from", "/"], "13: needs 4-4"),
-        ):
-            self.expect(words, fault(text))
-
-    def test_options_that_are_wrong(self):
-        find = ["find", "grid", "3-3", "won", "--from", folder_of((3, 3))]
-        for words in ([*find, "--limit", "x"], ["stats", "grid", "3-3", "--csv", "--csv"]):
-            self.expect(words, USAGE_ERROR)
