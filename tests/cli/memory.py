@@ -9,21 +9,22 @@ another, so there it goes on until a row of runs has met no refusal.
 The last tests have the largest request told of runs that read a file of the usual board.
 """
 
-import hashlib
 import math
 import re
 import unittest
 from pathlib import Path
 from typing import NamedTuple
 
+from tests.folders.common import BUILD, LIST, LOCK, files_in, files_of, folder_of, lines_of
+from tests.folders.common import sums_of, verified
 from tests.lib import preload
-from tests.lib.case import Case
+from tests.lib.case import MEMORY, Case
 from tests.lib.chosen import TRIALS, is_built_here
-from tests.lib.program import COUNTED, DEEPEST, LOOKED, MORRIS, PROBED, ROOT
-from tests.lib.program import USAGE_ERROR, Answer, fault
+from tests.lib.program import MORRIS, ROOT, Answer, fault
 from tests.lib.rules import NINE, size_of
 from tests.lib.steps import NO_TRIALS
-from tests.lib.tables import grid_files
+from tests.lib.tables import grid_files, tables
+from tests.lookups.common import answered
 
 # How many bytes the captures take that are kept while a graph by classes is read.
 KEPT_BYTES = 81_920
@@ -38,85 +39,88 @@ KEPT = {"may_do_without": lambda size: size == KEPT_BYTES}
 ANYTHING = {"may_do_without": lambda size: True}
 # So many runs in a row meet no refusal before a command of two workers has been through.
 TWO_WORKERS = {**ANYTHING, "row": 192}
+# Commands, the files on standard input, and what they may do without. What they answer with ample
+# memory is in worked_runs.txt.
+COMMANDS = (
+    ("look grid XXX.OO.O. --depth 3", "", NOTHING),
+    ("stats grid 3-3", "", NOTHING),
+    ("stats grid 3-3 --csv", "", NOTHING),
+    ("stats grid 3-3 --classes --workers 1", "", KEPT),
+    ("stats grid 3-3 --classes --workers 2", "", TWO_WORKERS),
+    ("stats grid 3-3 --classes --workers 1 --deepest", "", KEPT),
+    ("stats round 3-3", "", NOTHING),
+    ("build grid 3-3 --workers 1 --blocks 5", "", ANYTHING),
+    ("build grid 3-3 --workers 1 --all", "", ANYTHING),
+    ("build grid 3-3 --workers 2 --blocks 5", "", TWO_WORKERS),
+    ("verify grid --workers 1", "3-3", ANYTHING),
+    ("verify grid --workers 2", "3-3", TWO_WORKERS),
+    ("verify grid --workers 2", "4-3c", TWO_WORKERS),
+    ("verify grid --workers 1", "", ANYTHING),
+    ("verify grid --all --workers 1", "3-3c", ANYTHING),
+    ("verify grid --all --workers 1", "", ANYTHING),
+    ("probe grid OO.OXX.X.", "3-3", NOTHING),
+    ("probe grid OO.OXX.X.", "", NOTHING),
+    ("--help", "", NOTHING),
+    ("help look", "", NOTHING),
+    ("build --help", "", NOTHING),
+    ("--version", "", NOTHING),
+    ("lok grid", "", ANYTHING),
+    ("look grid XXX.OO.O. --dept 3", "", ANYTHING),
+    ("look grid XXX.OO.O. --depth 7", "", NOTHING),
+    ("build grid 3-3 --workers 0", "", NOTHING),
+    ("stats grid", "", NOTHING),
+    ("", "", NOTHING),
+)
+# The same of commands that tell of their progress, which takes no memory that a run could do
+# without.
+WITH_PROGRESS = (
+    ("build grid 4-3 --classes --workers 1 --blocks 5", "", ANYTHING),
+    ("build grid 4-3 --classes --all --workers 1", "", ANYTHING),
+    ("verify grid --workers 1", "3-3c", ANYTHING),
+    ("probe grid OO.OXX.X.", "3-3c", NOTHING),
+    ("probe grid XXXXO.OO.", "3-3c 4-3c", NOTHING),
+)
+# Commands over the files of a folder, at its place in them.
+TEXT = "XXX.OO.O."
+OVER_FOLDERS = (
+    (f"lookup grid {TEXT} --from", ""),
+    (f"lookup grid --line {TEXT} --from", ""),
+    ("lookup grid --moves --from", TEXT),
+    ("stats grid 4-3 --from", ""),
+    ("stats grid 4-3 --csv --from", ""),
+    ("find grid 4-3 deepest --from", ""),
+    ("find grid 4-3 lost --all --count --from", ""),
+    ("find grid 4-3 draw --all --from", ""),
+)
+
+
+def bundle(names):
+    return b"".join(grid_files()[it] for it in names.split())
 
 
 class Commands(Case):
     """Each request of the program."""
 
-    def refused(self, line, expected, given=b"", **how):
-        """A command answers this with ample memory, and with less as it should."""
-        words = line.split()
-        self.expect(words, expected, given)
-        return self.each_request_refused(words, given, **how)
+    def test_each_request(self):
+        for line, names, how in COMMANDS:
+            self.each_request_refused(line.split(), bundle(names), **how)
 
-    def test_look(self):
-        self.refused("look grid XXX.OO.O. --depth 3", (0, LOOKED, b""), **NOTHING)
+    def test_each_request_of_runs_that_tell_of_their_progress(self):
+        for line, names, how in WITH_PROGRESS:
+            silent, told = (
+                self.each_request_refused([*line.split(), *more], bundle(names), **how)
+                for more in ([], ["--progress"])
+            )
+            self.assertEqual(told and told.needless, silent and silent.needless, line)
 
-    def test_stats(self):
-        classes = "stats grid 3-3 --classes --workers"
-        self.refused("stats grid 3-3", (0, COUNTED, b""), **NOTHING)
-        self.refused(f"{classes} 1", (0, COUNTED, b""), **KEPT)
-        self.refused(f"{classes} 2", (0, COUNTED, b""), **TWO_WORKERS)
-        self.refused(f"{classes} 1 --deepest", (0, DEEPEST, b""), **KEPT)
-        self.refused("stats round 3-3", fault("25: no such board"), **NOTHING)
-
-    def test_build(self):
-        built = 0, grid_files()["3-3"], b""
-        self.refused("build grid 3-3 --workers 1 --blocks 5", built, **ANYTHING)
-        self.refused("build grid 3-3 --workers 1 --all", built, **ANYTHING)
-        self.refused("build grid 3-3 --workers 2 --blocks 5", built, **TWO_WORKERS)
-
-    def test_verify(self):
-        file, by_classes = grid_files()["3-3"], grid_files()["4-3c"]
-        verified = b"verified 3-3: 1680 entries\n"
-        self.refused("verify grid --workers 1", (0, verified, b""), file, **ANYTHING)
-        self.refused("verify grid --workers 2", (0, verified, b""), file, **TWO_WORKERS)
-        verified = b"verified 4-3: 470 entries\n"
-        self.refused("verify grid --workers 2", (0, verified, b""), by_classes, **TWO_WORKERS)
-        short = fault("15: file is too short")
-        self.refused("verify grid --workers 1", short, file[:-1], **ANYTHING)
-
-    def test_verify_bundles(self):
-        words, verified = "verify grid --all --workers 1", b"verified 3-3: 320 entries\n"
-        self.refused(words, (0, verified, b""), grid_files()["3-3c"], **ANYTHING)
-        self.refused(words, fault("32: no table files"), **ANYTHING)
-
-    def test_probe(self):
-        words = "probe grid OO.OXX.X."
-        self.refused(words, (0, PROBED, b""), grid_files()["3-3"], **NOTHING)
-        self.refused(words, fault("13: needs 3-3"), **NOTHING)
-
-    def test_progress(self):
-        """It takes no memory that a run could do without."""
-        low, high = grid_files()["3-3c"], grid_files()["4-3c"]
-        verified = b"verified 3-3: 320 entries\n"
-        for line, given, output, how in (
-            ("build grid 4-3 --classes --workers 1 --blocks 5", b"", high, ANYTHING),
-            ("build grid 4-3 --classes --all --workers 1", b"", low + high, ANYTHING),
-            ("verify grid --workers 1", low, verified, ANYTHING),
-            ("probe grid OO.OXX.X.", low, PROBED, NOTHING),
-            ("probe grid XXXXO.OO.", low + high, b"XXXXO.OO.\ndraw\n2-5\n", NOTHING),
-        ):
-            silent = self.refused(line, (0, output, b""), given, **how)
-            words = [*line.split(), "--progress"]
-            found = self.each_request_refused(words, given, **how)
-            self.assertEqual(found and found.needless, silent and silent.needless, line)
-
-    def test_help_and_version(self):
-        for line in ("--help", "help look", "build --help", "--version"):
-            self.assertTrue(self.shown(line.split()))
-            self.each_request_refused(line.split(), **NOTHING)
-
-    def test_arguments_that_are_not_allowed(self):
-        for line, how in (
-            ("lok grid", ANYTHING),
-            ("look grid XXX.OO.O. --dept 3", ANYTHING),
-            ("look grid XXX.OO.O. --depth 7", NOTHING),
-            ("build grid 3-3 --workers 0", NOTHING),
-            ("stats grid", NOTHING),
-            ("", NOTHING),
-        ):
-            self.refused(line, USAGE_ERROR, **how)
+    def test_each_request_over_the_files_of_a_folder(self):
+        """A text for which memory is wanting is answered by that, or the whole run is."""
+        wanting = answered(f"{TEXT}: {MEMORY.errors.decode()}", 1)
+        for classes in (False, True):
+            folder = tables("grid", "4-3", classes)
+            for line, given in OVER_FOLDERS:
+                words = [*line.split(), folder]
+                self.each_request_refused(words, given.encode(), [wanting], **ANYTHING)
 
 
 def calls():
@@ -164,97 +168,67 @@ FOLDER_MEMORY = re.compile(
     rb"|36: no such folder"
     rb"|38: folder can't be locked): FOLDER: Cannot allocate memory)\n"
 )
-# The file by which a folder is locked. It stays, empty.
-LOCK = ".morris.lock"
-DIGESTS = "grid.sha256"
-BUILD = "build grid 4-3 --classes --workers 1 --blocks 5 --into".split()
-VERIFY = "verify grid --workers 1 --from".split()
-# The files of the pairs, in the order in which they are built.
-BUILT = {"grid-3-3.nmmt": "3-3c", "grid-4-3.nmmt": "4-3c"}
+# The files of 4-3 and below by classes.
+FILES = files_of((4, 3), True)
+BUILD_FILES = [*BUILD[:-1], "--classes", "--workers", "1", "--blocks", "5", "--into"]
 
 
 class Left(NamedTuple):
     """What a run on a folder answered, the size of the request that was refused, 0 for none, and
-    what files it left."""
+    what it left there."""
 
     answer: Answer
     size: int
     files: dict
 
 
-def run_on(folder, words, number=0, before=None):
-    """Runs a command on a folder, where these files were before. The request of this number is
-    refused. The folder is FOLDER in the answer."""
-    folder = Path(folder)
-    for name, content in (before or {}).items():
-        folder.mkdir(exist_ok=True)
-        (folder / name).write_bytes(content)
-    (status, output, errors), size = preload.run_refused([MORRIS, *words, str(folder)], number)
-    errors = errors.replace(str(folder).encode(), b"FOLDER")
-    files = {it.name: it.read_bytes() for it in folder.iterdir()} if folder.is_dir() else {}
-    return Left(Answer(status, output, errors), size, files)
-
-
 class Folders(Case):
     """Each request of a run on a folder: the lines that it printed are those of the first files,
     and nothing else is left there but what was before, and the lock once there is one."""
 
-    def setUp(self):
-        self.room = self.make_room()
+    def each_refused(self, words, printed, before, after):
+        """Refuses each request of a run that prints this, and has a folder of some files have
+        others."""
+        room, lines = self.make_room(), printed.splitlines(keepends=True)
+        new = [it for it in after if it.endswith(".nmmt") and it not in before]
 
-    def build_refused(self, before, digests):
-        """Refuses each request of a build into a folder with these files, whose list of digests is
-        then this."""
-        whole = run_on(f"{self.room}/whole", BUILD, before=before)
-        built = {name: grid_files()[it] for name, it in BUILT.items()}
-        self.assertEqual(whole.files, {**built, DIGESTS: digests, LOCK: b""}, whole.answer)
-        self.assertEqual((whole.answer.status, whole.answer.errors), (0, b""))
-        done = [[*BUILT][:many] for many in range(len(BUILT) + 1)]
-        start = lambda number: run_on(f"{self.room}/{number}", BUILD, number, before)
-        preload.refuse_each(BUILD, start, self.judge(whole, done, before), **ANYTHING)
-
-    def judge(self, whole, done, before):
-        """Judges what is left. The lists name the files that may be there beside those of before:
-        after no line, after one, and so on."""
-        lines = whole.answer.output.splitlines(keepends=True)
+        def start(number):
+            folder = Path(room, str(number))
+            for name, content in before.items():
+                folder.mkdir(exist_ok=True)
+                (folder / name).write_bytes(content)
+            found, size = preload.run_refused([MORRIS, *words, str(folder)], number)
+            errors = found.errors.replace(bytes(folder), b"FOLDER")
+            return Left(found._replace(errors=errors), size, files_in(folder))
 
         def judge(found):
-            status, output, errors = found.answer
-            if (found.answer, found.files) == (whole.answer, whole.files):
+            if (found.answer, found.files) == whole:
                 return "right"
-            if not found.size or status != 1 or not FOLDER_MEMORY.fullmatch(errors):
-                return None
-            for many, names in enumerate(done):
-                kept = {**before, **{name: whole.files[name] for name in names}}
-                if output == b"".join(lines[:many]) and found.files in (kept, {**kept, LOCK: b""}):
-                    return "refused"
+            status, output, errors = found.answer
+            if found.size and status == 1 and FOLDER_MEMORY.fullmatch(errors):
+                for many in range(len(lines) + 1):
+                    kept = {**before, **{it: after[it] for it in new[:many]}}
+                    is_kept = found.files in (kept, {**kept, LOCK: b""})
+                    if is_kept and output == b"".join(lines[:many]):
+                        return "refused"
             return None
 
-        return judge
-
-    def digests(self):
-        """The list of digests of the files."""
-        files = {name: grid_files()[it] for name, it in BUILT.items()}
-        lines = (f"{hashlib.sha256(it).hexdigest()}  {name}\n" for name, it in files.items())
-        return "".join(lines).encode()
+        whole = Answer(0, printed, b""), after
+        self.same(words, judge(start(0)), "right")
+        preload.refuse_each(words, start, judge, **ANYTHING)
 
     def test_build_into_a_new_folder(self):
-        self.build_refused({}, self.digests())
+        self.each_refused(BUILD_FILES, lines_of(FILES), {}, folder_of(FILES))
 
     def test_build_into_a_folder_with_a_list(self):
         """Which has the line of a file that isn't replaced."""
         listed = 64 * b"0" + b"  grid-6-3.nmmt\n"
-        self.build_refused({DIGESTS: listed}, listed + self.digests())
+        after = {**folder_of(FILES), LIST: listed + sums_of(FILES)}
+        self.each_refused(BUILD_FILES, lines_of(FILES), {LIST: listed}, after)
 
     def test_verify_a_folder(self):
-        folder = f"{self.room}/built"
-        built = run_on(folder, BUILD)
-        whole = run_on(folder, VERIFY)
-        lines = b"verified 3-3: 320 entries\nverified 4-3: 470 entries\n"
-        self.assertEqual(whole, ((0, lines, b""), 0, built.files))
-        start = lambda number: run_on(folder, VERIFY, number)
-        judge = self.judge(whole, [[*built.files]] * 3, {})
-        preload.refuse_each(VERIFY, start, judge, **ANYTHING)
+        words = ["verify", "grid", "--workers", "1", "--from"]
+        self.each_refused(words, verified(FILES), folder_of(FILES), folder_of(FILES))
 
 
 class Largest(Case):

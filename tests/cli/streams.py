@@ -17,7 +17,7 @@ from tests.lib.case import UNREAD, Case, unwritten
 from tests.lib.preload import library
 from tests.lib.program import COUNTED, DEEPEST, LOOKED, MORRIS, PROBED, USAGE_ERROR
 from tests.lib.program import Answer, Run, Stream, count, fault, run
-from tests.lib.tables import grid_files
+from tests.lib.tables import grid_files, tables
 
 LOOK = ["look", "grid", "XXX.OO.O.", "--depth", "3"]
 STATS = ["stats", "grid", "3-3"]
@@ -28,6 +28,10 @@ VERIFIED = b"verified 3-3: 1680 entries\n"
 VERIFY_ALL = [*VERIFY, "--all"]
 BOTH_VERIFIED = VERIFIED + b"verified 4-3: 2520 entries\n"
 PROBE = ["probe", "grid", "OO.OXX.X."]
+# Commands over the files of a folder, whose path comes after them.
+LOOKUP = ["lookup", "grid", "--from"]
+COUNT = ["stats", "grid", "3-3", "--from"]
+FIND = ["find", "grid", "3-3", "lost", "--all", "--from"]
 NOTHING = unwritten(0, b"")
 # No run takes this many seconds.
 MOST_SECONDS = 60
@@ -37,6 +41,17 @@ def printed():
     """Commands with their input, what they print, and after which of these bytes the output
     fails."""
     files, version = grid_files(), run(["--version"]).output
+    for folder in (tables("grid", "4-3", it) for it in (False, True)):
+        for command, *more in (
+            (LOOKUP, "--moves", "XXX.OO.O."),
+            (COUNT,),
+            (COUNT, "--csv"),
+            (FIND,),
+            (FIND, "--count"),
+        ):
+            words = [*command, folder, *more]
+            text = run(words).output
+            yield words, b"", text, range(len(text))
     both, classes = files["3-3"] + files["4-3"], files["3-3c"] + files["4-3c"]
     for words, given, text in (
         (LOOK, b"", LOOKED),
@@ -56,8 +71,10 @@ class Output(Case):
     """Standard output that fails."""
 
     def test_output_that_takes_nothing(self):
-        for words in (LOOK, STATS, BUILD, CLASSES, VERIFY, PROBE, ["--help"], ["look", "--help"]):
-            given = grid_files()["3-3"] if words in (VERIFY, PROBE) else b""
+        asked = [(words, given) for words, given, _, _ in printed()]
+        asked += [(["--help"], b""), (["look", "--help"], b"")]
+        asked.append(([*LOOKUP, tables("grid", "4-3")], b"XXX.OO.O.\n"))
+        for words, given in asked:
             with open("/dev/full", "wb") as full:
                 self.expect(words, NOTHING, given, stdout=full)
             end, target = os.pipe()
@@ -108,7 +125,7 @@ class Input(Case):
     """Standard input that fails."""
 
     def test_input_that_cannot_be_read(self):
-        for words in (VERIFY, VERIFY_ALL, PROBE):
+        for words in (VERIFY, VERIFY_ALL, PROBE, [*LOOKUP, tables("grid", "4-3")]):
             folder = os.open("/", os.O_RDONLY)
             self.expect(words, UNREAD, stdin=folder)
             os.close(folder)
