@@ -145,33 +145,16 @@ class Lines(ListCase):
 # ---- what is made to last
 
 
-def joined(lines):
-    """The lines of a trace, without the number of their process; those that another one's line cuts
-    in two are put together."""
-    begun = {}
-    for line in lines:
-        process, text = line.split(maxsplit=1)
-        if text.endswith(" <unfinished ...>"):
-            begun[process] = text.removesuffix(" <unfinished ...>")
-            continue
-        yield re.sub(r"^<\.\.\. \w+ resumed>", lambda _: begun.pop(process), text)
-
-
 def calls_in(trace, top, folder):
     """The calls of a trace by which names and bytes come to last, in order, and the writes to
     standard output: each with its paths, by the folder. Several writes of one file are one."""
     found = []
-    for line in joined(trace.splitlines()):
-        call = re.fullmatch(r"(\w+)\((.*)\) += \d+", line)
-        if call is None:
-            continue
-        paths = re.findall(r"<(/[^>]*)>", call[2]) if call[1] in ("write", "fsync") else []
-        paths = paths[:1] or re.findall(r'"([^"]*)"', call[2])
-        if call[1] == "write" and call[2].startswith("1<"):
+    for name, words in re.findall(r"(?m)^\d+ +(\w+)\((.*)\) += \d+", trace):
+        paths = re.findall(r"<(/[^>]*)>", words)[:1] or re.findall(r'"([^"]*)"', words)
+        if words.startswith("1<"):
             paths = ["standard output"]
         names = (os.path.relpath(os.path.join(top, it), folder) for it in paths)
-        name = call[1].removesuffix("2").removesuffix("at")
-        made = " ".join([name, *(it.removeprefix("../") for it in names)])
+        made = " ".join([re.sub("(at)?2?$", "", name), *(it.removeprefix("../") for it in names)])
         if found[-1:] != [made]:
             found.append(made)
     return found
@@ -189,7 +172,7 @@ class Lasting(FolderCase):
     def setUp(self):
         if shutil.which("strace") is None:
             self.skipTest("strace")
-        if subprocess.run(["strace", "-o", os.devnull, "true"], check=False).returncode:
+        if subprocess.run(["strace", "-z", "-o", os.devnull, "true"], check=False).returncode:
             self.skipTest("the right to trace a program")
         self.top = os.path.realpath(self.make_room())
         self.written = []
@@ -201,7 +184,7 @@ class Lasting(FolderCase):
         """A build into a place begins with these calls."""
         words = [*BUILD, place]
         folder, trace = os.path.join(self.top, place), Path(self.top, "trace")
-        traced = ["-f", "-y", "-o", trace, "-e", f"trace={CALLS}", MORRIS, *words]
+        traced = ["-f", "-z", "-y", "-o", trace, "-e", f"trace={CALLS}", MORRIS, *words]
         done = run(traced, program="strace", cwd=self.top)
         self.same(words, done[::2], (0, b""))
         calls = calls_in(trace.read_text("utf-8"), self.top, folder)
