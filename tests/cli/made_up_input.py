@@ -1,32 +1,30 @@
-"""Made-up texts, pairs, arguments and files: each answer is that of an independent reading.
+"""Made-up texts, pairs and files: each answer is that of an independent reading.
 
-They are made by changing right ones: bits flipped, ends cut, pieces joined, fields swapped, and
-right digests put over wrong codes. The seed is fixed. tests/lib/rules.py alone gives what each
-input is answered, to the last byte of both streams.
+They are made by changing right ones: characters, bytes and files come in, go, and take one
+another's place, and right digests stand over wrong codes. The seed is fixed. tests/lib/rules.py
+alone gives what each input is answered, to the last byte of both streams.
 """
 
 import random
 import struct
 
 from tests.lib.case import Case
-from tests.lib.program import USAGE_ERROR, Run, fault
+from tests.lib.program import Run, fault
 from tests.lib.rules import BOARDS, GRID, GRID_PAIRS, NINE, VERSIONS, answer_of, below, build
-from tests.lib.rules import file_of, look, probe, sealed, size_of, solved, stats, verify, verify_all
+from tests.lib.rules import file_of, look, probe, sealed, size_of, solved, stats, text_of, verify
+from tests.lib.rules import verify_all
 
 SEED = 20260113
 RUNS = 6000
 # The faults that such an input can have.
-FAULTS = (1, 2, 3, 4, 5, *range(13, 22), 25, 26, 27, 32)
-# Arguments that are right, and options that none of their commands takes.
-RIGHT = (
-    "look grid XXX.OO.O.",
-    "stats grid 3-3",
-    "build grid 3-3",
-    "verify grid",
-    "probe grid XXX.OO.O.",
-)
-WRONG_OPTIONS = ("--wide", "--depth", "--depth=7", "--depth=-1", "--workers=0", "--workers=65")
-WRONG_OPTIONS += ("--blocks=0", "--blocks=1025", "--all=1", "--classes=1", "-x")
+FAULTS = (1, 2, 3, 4, 5, *range(13, 22), 25, 26, 32)
+PAIRS = ("3-3", "4-3", "3-4", "4-4", "5-3", "5-4", "6-3", "9-9")
+# What comes into a text and into a pair.
+OF_TEXT, OF_PAIR = 5 * "XO." + "xo0 é€-\t?", "0123456789-+ x٣é"
+# Fields of a header, by where they stand.
+FIELDS = ((4, 5), (5, 6), (6, 7), (7, 8), (6, 8), (8, 16), (6, 16))
+# Codes that a file may lie with.
+CODES = (0, 1, 2, 3, 4, 5, 7, 42, 65534, 65535)
 
 
 class Maker:
@@ -37,97 +35,68 @@ class Maker:
         self.files = {it: file_of(*it, codes) for it, codes in solved().listed.items()}
         self.positions = list(solved().codes)
 
-    def position(self, board):
-        """A position of a board. Mostly few stones, so that jumps and captures come often."""
-        if board is GRID:
-            return self.draw.choice(self.positions)
-        own, other = self.draw.choice([3, 3, 3, 4, 5, 9, 2]), self.draw.choice([3, 3, 4, 7, 9])
-        points = self.draw.sample(board.points, own + other)
-        return frozenset(points[:own]), frozenset(points[own:])
+    def spoiled(self, items, piece):
+        """A list in which some items became another one, which `piece` gives, went, or changed
+        places with another, or others came in."""
+        items = list(items)
+        for _ in range(self.draw.choice([0, 0, 0, 1, 1, 2, 9])):
+            kind, place = self.draw.randrange(4), self.draw.randrange(len(items) + 1)
+            if kind == 0:
+                items.insert(place, piece())
+            elif place < len(items):
+                other = self.draw.randrange(len(items))
+                if kind == 1:
+                    items[place] = piece()
+                elif kind == 2:
+                    del items[place]
+                else:
+                    items[place], items[other] = items[other], items[place]
+        return items
 
     def text(self, board):
-        own, other = self.position(board)
-        text = ["X" if p in own else "O" if p in other else "." for p in board.points]
-        for _ in range(self.draw.choice([0, 0, 0, 1, 1, 2, 9])):
-            kind = self.draw.randrange(5)
-            place = self.draw.randrange(len(text) + 1)
-            if kind == 0 and text:
-                text[place % len(text)] = self.draw.choice("XO.")
-            elif kind == 1 and text:
-                text[place % len(text)] = self.draw.choice("xo0 é€-\t?")
-            elif kind == 2:
-                text.insert(place, self.draw.choice("XO."))
-            elif kind == 3 and text:
-                del text[place % len(text)]
-            elif text:
-                other = self.draw.randrange(len(text))
-                place %= len(text)
-                text[place], text[other] = text[other], text[place]
-        return "".join(text)
+        """A text, mostly of few stones, so that jumps and captures come often."""
+        position = self.draw.choice(self.positions)
+        if board is not GRID:
+            own, other = self.draw.choice([3, 3, 3, 4, 5, 9, 2]), self.draw.choice([3, 3, 4, 7, 9])
+            points = self.draw.sample(board.points, own + other)
+            position = points[:own], points[own:]
+        text = text_of(position, board)
+        return "".join(self.spoiled(text, lambda: self.draw.choice(OF_TEXT)))
 
     def pair(self):
-        text = list(self.draw.choice(["3-3", "4-3", "3-4", "4-4", "5-3", "5-4", "6-3", "9-9"]))
-        for _ in range(self.draw.choice([0, 1, 1, 2])):
-            place = self.draw.randrange(len(text) + 1)
-            kind = self.draw.randrange(3)
-            if kind == 0 and text:
-                text[place % len(text)] = self.draw.choice("0123456789-+ x٣é")
-            elif kind == 1:
-                text.insert(place, self.draw.choice("0123456789- "))
-            elif text:
-                del text[place % len(text)]
-        return "".join(text)
+        return "".join(self.spoiled(self.draw.choice(PAIRS), lambda: self.draw.choice(OF_PAIR)))
 
     def file(self):
         """A file, right or changed in some way."""
         pair = self.draw.choice([(3, 3)] * 4 + [(4, 3)] * 3 + GRID_PAIRS)
         version = self.draw.choice(VERSIONS)
         data = bytearray(self.files[pair, version])
-        kind = self.draw.randrange(14)
-        if kind < 2:
-            pass
+        kind = self.draw.randrange(8)
+        if kind == 1:
+            data[:16] = self.spoiled(data[:16], lambda: self.draw.randrange(256))
         elif kind == 2:
             data[self.draw.randrange(len(data))] ^= 1 << self.draw.randrange(8)
         elif kind == 3:
-            data[self.draw.randrange(16)] = self.draw.randrange(256)
+            del data[self.draw.randrange(self.draw.choice([64, len(data)])) :]
         elif kind == 4:
-            del data[self.draw.randrange(len(data)) :]
-        elif kind == 5:
-            del data[self.draw.randrange(64) :]
-        elif kind == 6:
             data += self.draw.randbytes(self.draw.choice([1, 2, 15, 16, 40]))
-        elif kind == 7:
-            one, two = self.draw.randrange(16), self.draw.randrange(16)
-            data[one], data[two] = data[two], data[one]
-        elif kind == 8:
-            data = self.with_field_of_another(data)
-        elif kind == 9:
-            # The version of the other numbering, at times with its number of entries too.
-            data[4] = 3 - version
-            if self.draw.randrange(2):
-                data[8:16] = self.files[pair, 3 - version][8:16]
+        elif kind == 5:
+            # Fields of another file, or of the same pair's in the other version.
+            other = self.draw.choice([(pair, 3 - version), self.draw.choice(list(self.files))])
+            for start, end in self.draw.sample(FIELDS, 2):
+                data[start:end] = self.files[other][start:end]
             data = sealed(bytes(data[:-32]))
-        elif kind == 10:
+        elif kind == 6:
             return self.start_of_nine(version)
-        else:
-            data = self.lying(pair, version)
+        elif kind == 7:
+            return self.lying(pair, version)
         return bytes(data)
-
-    def with_field_of_another(self, data):
-        """A field of another file, under a right digest."""
-        other = self.files[self.draw.choice(list(self.files))]
-        fields = [(4, 5), (5, 6), (6, 7), (7, 8), (6, 8), (8, 16), (6, 16)]
-        start, end = self.draw.choice(fields)
-        data[start:end] = other[start:end]
-        return sealed(bytes(data[:-32]))
 
     def lying(self, pair, version):
         """Wrong codes under a right digest."""
         codes = list(solved().listed[pair, version])
         for _ in range(self.draw.choice([1, 1, 2, 5])):
-            place = self.draw.randrange(len(codes))
-            wrong = [0, 1, 2, 3, 4, 5, 7, 42, 65534, 65535, codes[place]]
-            codes[place] = self.draw.choice(wrong)
+            codes[self.draw.randrange(len(codes))] = self.draw.choice([*CODES, codes[0]])
         if self.draw.randrange(8) == 0:
             codes = [self.draw.choice([0, 1, 2, 4])] * len(codes)
         return file_of(pair, version, codes)
@@ -143,30 +112,15 @@ class Maker:
         return head + self.draw.randbytes(self.draw.choice([0, 1, 32, 5000]))
 
     def bundle(self):
-        # All of one version, or of either.
+        """Files of one version, or of either."""
         versions = self.draw.choice([(1,), (2,), VERSIONS])
         pairs = below(self.draw.choice(GRID_PAIRS))
         whole = [self.files[it, self.draw.choice(versions)] for it in pairs]
-        kind = self.draw.randrange(8)
-        if kind < 3:
-            whole.append(self.file())
-        elif kind == 3:
-            self.draw.shuffle(whole)
-        elif kind == 4:
-            del whole[self.draw.randrange(len(whole))]
-        elif kind == 5:
-            whole.insert(self.draw.randrange(len(whole) + 1), self.file())
-        elif kind == 6 and self.draw.randrange(8) == 0:
-            one = self.files[(3, 3), self.draw.choice(VERSIONS)]
-            whole = [one] * self.draw.choice([63, 64, 65, 66]) + [self.file()]
-        return b"".join(whole)
+        return b"".join(self.spoiled(whole, self.file))
 
     def run(self):
         """A run and the answer to it."""
-        names = ["grid"] * 40 + ["nine"] * 8 + ["round", "Grid", "", "grids", "gridé"]
-        name = self.draw.choice(names)
-        if self.draw.randrange(10) == 0:
-            return Run(self.wrong_words(), USAGE_ERROR)
+        name = self.draw.choice(["grid"] * 40 + ["nine"] * 8 + ["round", "Grid", "", "grids"])
         words, given, made = self.request(name, BOARDS.get(name, GRID))
         answer = answer_of(made) if name in BOARDS else fault("25: no such board")
         return Run(words, answer, given)
@@ -197,20 +151,6 @@ class Maker:
         words += ["--all"] * every + ["--classes"] * (version == 2)
         return [*words, "--", pair], b"", lambda: build(solved(), board, pair, every, version)
 
-    def wrong_words(self):
-        """Arguments that name no command, or not what it takes."""
-        right = self.draw.choice(RIGHT).split()
-        kind = self.draw.randrange(5)
-        if kind == 0:
-            return right[:-1]
-        if kind == 1:
-            return [*right, self.draw.choice(["more", "", "3-3", "é"])]
-        if kind == 2:
-            return [self.draw.choice(["lok", "", "stat", "LOOK", "0", "é"]), *right[1:]]
-        if kind == 3:
-            return [*right, self.draw.choice(WRONG_OPTIONS)]
-        return right[: self.draw.randrange(len(right) - 1)]
-
 
 class MadeUp(Case):
     """Answers to made-up input."""
@@ -220,5 +160,5 @@ class MadeUp(Case):
         maker = Maker()
         runs = [maker.run() for _ in range(RUNS)]
         found = {it.expected[2].split(b":")[0].decode() for it in runs}
-        self.assertEqual(found, {"", "error", *(f"fault {it}" for it in FAULTS)})
+        self.assertEqual(found, {"", *(f"fault {it}" for it in FAULTS)})
         self.expect_all(runs)
