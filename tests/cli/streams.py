@@ -14,7 +14,6 @@ import subprocess
 import tty
 
 from tests.lib.case import UNREAD, Case, unwritten
-from tests.lib.preload import library
 from tests.lib.program import COUNTED, DEEPEST, LOOKED, MORRIS, PROBED, USAGE_ERROR
 from tests.lib.program import Answer, Run, Stream, count, fault, run
 from tests.lib.tables import grid_files, tables
@@ -96,10 +95,9 @@ class Output(Case):
                 self.expect_all([*runs, Run(words, (0, text, b""), given, room=len(text))])
 
     def test_output_that_takes_some_bytes_at_a_time(self):
-        held = library("streams")
         for words, given, text, _ in printed():
-            done, by_sevens = (0, text, b""), Stream(held, 1, most=7)
-            runs = [Run(words, done, given, stream=Stream(held, 1, most=1), calls=len(text))]
+            done, by_sevens = (0, text, b""), Stream(1, most=7)
+            runs = [Run(words, done, given, stream=Stream(1, most=1), calls=len(text))]
             self.expect_all([*runs, Run(words, done, given, stream=by_sevens)])
 
     def test_reader_that_goes_away(self):
@@ -132,7 +130,6 @@ class Input(Case):
             self.same(f"{words} <&-", closed(words, 0), UNREAD)
 
     def test_input_that_fails_at_any_byte(self):
-        held = library("streams")
         for words, name, text, step in (
             (PROBE, "3-3", PROBED, 1),
             (PROBE, "3-3c", PROBED, 1),
@@ -142,21 +139,20 @@ class Input(Case):
             file = grid_files()[name]
             # A call for each byte, and one that finds the end.
             calls = len(file) + 1
-            runs = [Run(words, (0, text, b""), file, stream=Stream(held, 0, most=1), calls=calls)]
+            runs = [Run(words, (0, text, b""), file, stream=Stream(0, most=1), calls=calls)]
             for failing in range(1, calls + 1, step):
-                stream = Stream(held, 0, most=1, failing=failing)
+                stream = Stream(0, most=1, failing=failing)
                 runs.append(Run(words, UNREAD, file, stream=stream, calls=failing))
             self.expect_all(runs)
 
     def test_bundle_that_fails(self):
         """The lines stay of the files that were verified before."""
-        held = library("streams")
         low, high = grid_files()["3-3c"], grid_files()["4-3c"]
         whole, runs = len(low) + len(high), []
         for failing in (1, 16, len(low), len(low) + 1, whole, whole + 1):
             lines = b"verified 3-3: 320 entries\n" * (failing > len(low))
             lines += b"verified 4-3: 470 entries\n" * (failing > whole)
-            stream, expected = Stream(held, 0, most=1, failing=failing), (1, lines, UNREAD.errors)
+            stream, expected = Stream(0, most=1, failing=failing), (1, lines, UNREAD.errors)
             runs.append(Run(VERIFY_ALL, expected, low + high, stream=stream, calls=failing))
         self.expect_all(runs)
 
@@ -164,7 +160,7 @@ class Input(Case):
         """Board and text are looked at first, and other commands read nothing."""
         board, text = fault("25: no such board"), fault("1: text is not one character per point")
         self.expect_all(
-            Run(words, expected, of_folder=True, stream=Stream(library("streams"), 0), calls=calls)
+            Run(words, expected, of_folder=True, stream=Stream(0), calls=calls)
             for words, expected, calls in (
                 (["probe", "round", "XXX.OO.O."], board, 0),
                 (["probe", "grid", "X?"], text, 0),
@@ -196,7 +192,7 @@ class Errors(Case):
             self.expect(["look"], (2, b"", b""), stderr=full)
 
     def test_errors_that_are_cut(self):
-        held = Stream(library("streams"), 1, most=1, failing=1)
+        held = Stream(1, most=1, failing=1)
         cut = [Run(["look", "round", "XXX.OO.O."], (1, b"", b"fau"), error_room=3)]
         cut += [Run(["look"], (2, b"", b"err"), error_room=3)]
         for room in (64, 0):
@@ -209,7 +205,7 @@ class Errors(Case):
         """It changes nothing else. A line that failed isn't tried twice, and later ones not at
         all."""
         files, runs = grid_files(), []
-        both, second = files["3-3"] + files["4-3"], Stream(library("streams"), 2, failing=2)
+        both, second = files["3-3"] + files["4-3"], Stream(2, failing=2)
         for words, given in (
             (["stats", "grid", "4-3"], b""),
             (["stats", "grid", "4-3", "--classes"], b""),

@@ -10,7 +10,6 @@ import shlex
 from pathlib import Path
 
 from tests.lib.case import Case
-from tests.lib.preload import library
 from tests.lib.program import COUNTED, LOOKED, MORRIS, USAGE_ERROR, Answer, Has, Run, Stream
 from tests.lib.program import fault, run
 from tests.lib.rules import GRID, GRID_PAIRS, NINE, deepest, look, name_of, solved, stats
@@ -121,7 +120,7 @@ class ByTheRules(Case):
 
     def test_look_at_jumps_and_captures_on_nine(self):
         """The texts go out in one write."""
-        held, runs = Stream(library("streams"), 1), []
+        held, runs = Stream(1), []
         for text, depth, has in (
             ("OO..X....O.X..........X.", 2, "moves 54\nlost in 2\n"),
             ("XX..........X...OOO.....", 0, "\n12-2x16\n12-2x17\n12-2x18\n12-3\n"),

@@ -82,28 +82,20 @@ class Case(unittest.TestCase):
     def each_write_fails(self, words, text, given=b"", sizes=None):
         """A write fails after any number of bytes of the text, or after each of these numbers:
         those went out, and no write is tried after it."""
-        held = preload.library("streams")
+        fails = lambda size: {"stream": Stream(1, 1, size + 1), "calls": size + 1}
         self.expect_all(
-            Run(
-                words,
-                unwritten(size, text),
-                given,
-                stream=Stream(held, 1, most=1, failing=size + 1),
-                calls=size + 1,
-            )
+            Run(words, unwritten(size, text), given, **fails(size))
             for size in (range(len(text)) if sizes is None else sizes)
         )
 
     def each_read_fails(self, words, judge, given=b"", descriptor=OPENED, most=0):
         """Each read from a descriptor fails in turn, until a run makes fewer reads: `judge` is
         called with the answer of each, and with whether a read failed in it."""
-        held = preload.library("streams")
         failing = calls = 0
         while failing <= calls:
             failing += 1
-            stream = Stream(held, descriptor, most, failing)
             count()
-            found, calls = answer(Run(words, None, given, stream=stream))
+            found, calls = answer(Run(words, None, given, Stream(descriptor, most, failing)))
             with self.subTest(" ".join(map(str, words)), read=failing):
                 judge(found, calls >= failing)
         self.assertGreater(failing, 1, f"{words}: read nothing")

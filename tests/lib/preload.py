@@ -1,63 +1,26 @@
-"""The libraries that the loader puts in front of the C library: refuse.c, which refuses a request
-for memory, and streams.c, which holds up a stream. They are compiled by $CC, by default `cc`."""
+"""Requests for memory that are refused, one in each run, and the largest one that a run makes, by
+preload.c."""
 
-import functools
 import os
-import shlex
-import shutil
 import subprocess
-import tempfile
-import threading
-import unittest
 from collections import deque
 from concurrent.futures import ThreadPoolExecutor
-from pathlib import Path
 from typing import NamedTuple
 
-from tests.lib.program import ENVIRONMENT, Answer, count
+from tests.lib.program import ENVIRONMENT, Answer, count, library
 
-FOLDER = Path(__file__).parent
-FLAGS = ["-shared", "-fPIC", "-O2", "-nostdlib"]
 # No call makes this many requests for memory.
 MOST_REQUESTS = 20_000
 # How many runs are under way or wait, of which those after the last request are in vain.
 AHEAD = 2 * (os.cpu_count() or 1)
 MOST_SECONDS = 60
-# Runs side by side ask for a library at the same time.
-_compiling = threading.Lock()
-
-
-@functools.cache
-def _room():
-    """A folder for what is compiled, which is gone when the process ends."""
-    return tempfile.TemporaryDirectory(prefix="morris-preload-")
-
-
-def library(name):
-    """The path of the library made of a file of this folder. Without a compiler the test that asks
-    for it is skipped."""
-    with _compiling:
-        return _compiled(name)
-
-
-@functools.cache
-def _compiled(name):
-    compiler = shlex.split(os.environ.get("CC") or "cc")
-    if not shutil.which(compiler[0]):
-        raise unittest.SkipTest(f"a C compiler (CC={compiler[0]})")
-    made = f"{_room().name}/{name}.so"
-    subprocess.run([*compiler, *FLAGS, f"{FOLDER}/{name}.c", "-o", made], check=True)
-    return made
-
-
-# ---- memory
 
 
 def _with_refuser(words, given, told_by, **environment):
-    """The answer of a command with refuse.c in front of the C library, and the numbers of bytes
-    that it told to the file descriptor of this variable."""
+    """The answer of a command, and the numbers of bytes that preload.c told to the file descriptor
+    of this variable."""
     told, tells = os.pipe()
-    env = {**ENVIRONMENT, "LD_PRELOAD": library("refuse"), told_by: str(tells), **environment}
+    env = {**ENVIRONMENT, "LD_PRELOAD": library(), told_by: str(tells), **environment}
     how = {"capture_output": True, "env": env, "pass_fds": (tells,), "timeout": MOST_SECONDS}
     count()
     try:
@@ -109,6 +72,8 @@ def refuse_each(what, start, judge, row=1, may_do_without=lambda size: False):
     Raises AssertionError for the first run that is wrong.
     """
     refused = needless = since = 0
+    # (once, before any thread asks)
+    library()
     with ThreadPoolExecutor(os.cpu_count()) as pool:
         under_way = deque(pool.submit(start, it) for it in range(1, AHEAD + 1))
         for number in range(1, MOST_REQUESTS):

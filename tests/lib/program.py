@@ -5,6 +5,7 @@ Which program that is, tests/lib/chosen.py says.
 """
 
 import fcntl
+import functools
 import os
 import re
 import resource
@@ -12,11 +13,13 @@ import signal
 import subprocess
 import tempfile
 import threading
+import unittest
 from concurrent.futures import ProcessPoolExecutor
+from pathlib import Path
 from typing import NamedTuple, Optional
 
 from tests.lib.chosen import program
-from tests.lib.steps import ROOT
+from tests.lib.steps import C_COMPILER, NO_C_COMPILER, ROOT, is_there
 
 MORRIS = program()
 # No run takes this many seconds.
@@ -82,9 +85,8 @@ USAGE_ERROR = Answer(2, b"", Begins(b"error: "))
 
 
 class Stream(NamedTuple):
-    """How a stream of the program is held up, by streams.c."""
+    """How a stream of the program is held up, by preload.c."""
 
-    library: str
     descriptor: int
     # How many bytes a call moves at most, and which call fails, counted from 1: 0 for none.
     most: int = 0
@@ -130,6 +132,23 @@ def runs_made():
 # ---- single runs
 
 
+@functools.cache
+def _room():
+    return tempfile.TemporaryDirectory(prefix="morris-preload-")
+
+
+@functools.cache
+def library():
+    """The path of the library that the loader puts in front of the C library, made of preload.c.
+    Without a compiler the test that asks for it is skipped."""
+    if not is_there(C_COMPILER[0]):
+        raise unittest.SkipTest(NO_C_COMPILER)
+    source, made = Path(__file__).with_name("preload.c"), f"{_room().name}/preload.so"
+    flags = ["-shared", "-fPIC", "-O2", "-nostdlib"]
+    subprocess.run([*C_COMPILER, *flags, source, "-o", made], check=True)
+    return made
+
+
 def fault(text):
     """The answer that is a fault, such as "12: out of memory"."""
     return Answer(1, b"", f"fault {text}\n".encode())
@@ -162,7 +181,7 @@ def _start(asked, counter):
         how["input"] = asked.given
     if asked.stream:
         held = {
-            "LD_PRELOAD": asked.stream.library,
+            "LD_PRELOAD": library(),
             "STREAM": asked.stream.descriptor,
             "MOST_BYTES": asked.stream.most,
             "FAILING_CALL": asked.stream.failing,
@@ -258,6 +277,9 @@ def judge_all(asked, at_once=AT_ONCE):
     """Makes runs side by side. Returns what is wrong with those that aren't right, of which the
     first are enough. The input of the first one is left in a file."""
     asked, wrong = list(asked), []
+    if any(it.stream for it in asked):
+        # (once, before any process of the pool asks)
+        library()
     with ProcessPoolExecutor(os.cpu_count()) as pool:
         for one, said in zip(asked, pool.map(judge, asked, chunksize=at_once)):
             count()
