@@ -13,7 +13,6 @@ from tests.lib.rules import probe, solved, verify, verify_all
 from tests.lib.tables import damaged, grid_files, replaced
 
 VERIFY = ["verify", "grid"]
-VERIFY_ALL = [*VERIFY, "--all"]
 TEXT = "XXX.OO.O."
 PROBE = ["probe", "grid", TEXT]
 SHORT = fault("15: file is too short")
@@ -45,9 +44,9 @@ def probed(given):
     return Run(PROBE, answer_of(lambda: probe(solved(), GRID, TEXT, given)), given)
 
 
-def all_verified(given, *words):
-    """A run that verifies a bundle, by some number of workers."""
-    return Run([*VERIFY_ALL, *words], answer_of(lambda: verify_all(solved(), GRID, given)), given)
+def all_verified(given):
+    """A run that verifies a bundle."""
+    return Run([*VERIFY, "--all"], answer_of(lambda: verify_all(solved(), GRID, given)), given)
 
 
 def with_a_wrong_entry(pair, version):
@@ -146,24 +145,9 @@ class Bundles(Case):
                 self.assertIn(expected, it.expected[2])
             self.expect_all(runs)
 
-    def test_damage_in_the_middle(self):
-        """Whole bundles in either layout, cut, changed, and with bytes after them, without one of
-        the files, and with one that is wrong between them."""
-        runs = []
-        for version in ("", "c"):
-            parts = [grid_files()[name_of(pair) + version] for pair in GRID_PAIRS]
-            whole, middle = b"".join(parts), len(b"".join(parts[:3]))
-            changed = replaced(whole, middle + 20, bytes([whole[middle + 20] ^ 1]))
-            for given in (whole, b"", changed, whole[:-1], whole[: middle + 3], whole + b"X"):
-                for workers in ([], ["--workers", "1"], ["--workers", "3"]):
-                    runs.append(all_verified(given, *workers))
-            for at in range(1, len(parts)):
-                for between, after in (([], parts[at + 1 :]), ([grid_files()["4-3d"]], parts[at:])):
-                    runs.append(all_verified(b"".join([*parts[:at], *between, *after])))
-        self.expect_all(runs)
-
     def test_any_order(self):
-        """Up to three pairs, some of them twice."""
+        """Up to three pairs, some of them twice. cli.made_up_input has bundles with damage in the
+        middle."""
         by_classes = [grid_files()[name_of(pair) + "c"] for pair in GRID_PAIRS]
         bundles = [it for many in (1, 2, 3) for it in product(by_classes, repeat=many)]
         self.expect_all(all_verified(b"".join(it)) for it in bundles)

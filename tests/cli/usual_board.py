@@ -9,8 +9,7 @@ import hashlib
 
 from tests.lib.case import Case
 from tests.lib.program import Run, run
-from tests.lib.rules import NINE, code_from, decided, deepest_of, position_at, read_file, read_text
-from tests.lib.rules import text_of
+from tests.lib.rules import NINE, decided, deepest_of, position_at, read_file, read_text
 
 # The files of a build by classes: the entries of each, and the SHA-256 of the whole file.
 BY_CLASSES = {
@@ -61,9 +60,18 @@ WON_TEXT = f"{WON}\nwon in 1\n12-2x5\n12-2x14\n12-2x19\n"
 LOST = "OO..X....O.X..........X."
 DRAWN = "XX.X............OOO.X.O."
 DRAWN_TEXT = f"{DRAWN}\ndraw\n0-7\n1-2\n1-9\n3-2x22\n3-4\n3-11\n20-19\n20-21\n"
-# `look --depth 6` finds the value of this one and of its results without any table.
+# worked_runs.txt has what `look` finds of it without any table.
 DEEP = ".X.............XOO.XOX.O"
 DEEP_TEXT = f"{DEEP}\nwon in 5\n1-9\n"
+
+
+def lost_text():
+    """What is printed of LOST: each move is as good as any other, since the opponent then wins at
+    once."""
+    moves = NINE.moves(*read_text(LOST, NINE))
+    if {decided(NINE, result, 1) for _, result in moves} != {2}:
+        raise AssertionError(f"{LOST} isn't lost in 2")
+    return "".join(f"{it}\n" for it in [LOST, "lost in 2", *(move for move, _ in moves)])
 
 
 def size_of_file(entries):
@@ -133,7 +141,7 @@ class UsualBoard(Case):
             Run(["probe", "nine", DEEP], (0, DEEP_TEXT.encode(), b""), self.bundle),
         ]
         for file in (self.parts["3-3"], self.whole):
-            for text, printed in ((WON, WON_TEXT), (LOST, self.lost_text())):
+            for text, printed in ((WON, WON_TEXT), (LOST, lost_text())):
                 runs.append(Run(["probe", "nine", text], (0, printed.encode(), b""), file))
         # 5 MB, and 2 bytes for each entry that is read.
         lines = progress(
@@ -143,24 +151,3 @@ class UsualBoard(Case):
         words = ["probe", "nine", "XXX.X...OOO.............", "--progress"]
         runs.append(Run(words, (1, b"", lines + b"fault 13: needs 4-3\n"), self.whole))
         self.expect_all(runs, at_once=1)
-
-    def lost_text(self):
-        """Every move of a position that is lost in 2 is as good as any other: the opponent then
-        wins at once."""
-        moves = NINE.moves(*read_text(LOST, NINE))
-        self.assertEqual(code_from([decided(NINE, result, 1) for _, result in moves]), 3)
-        return "".join(f"{it}\n" for it in [LOST, "lost in 2", *(move for move, _ in moves)])
-
-    def test_look(self):
-        """What `look` finds of the deepest position and of its results agrees with the tables."""
-        position = read_text(DEEP, NINE)
-        moves = NINE.moves(*position)
-        values = {move: self.looked(result) for move, result in moves}
-        best = [move for move, value in values.items() if value == "lost in 4"]
-        found = [DEEP, self.looked(position), *best]
-        self.assertEqual(found, DEEP_TEXT.splitlines(), values)
-
-    def looked(self, position):
-        """The value of a position as `look` prints it."""
-        words = ["look", "nine", text_of(position, NINE), "--depth", "6"]
-        return self.shown(words).splitlines()[-1]

@@ -3,12 +3,11 @@ ci` built here, where no source is newer; or the released one, where release/ is
 sources, which the launcher unpacks. With MORRIS_FROM_PROOFS=1 it is the one that was built here."""
 
 import functools
-import hashlib
 import os
 import subprocess
 import sys
 from pathlib import Path
-from typing import Iterator, NoReturn
+from typing import NoReturn
 
 from tests.lib.steps import ROOT
 
@@ -63,22 +62,16 @@ def is_released() -> bool:
     return bool(told()) and told()["sources"] == sources()
 
 
-def unpacked() -> Iterator[str]:
-    """The programs that the launcher has unpacked, where it keeps them."""
-    cache = os.environ.get("XDG_CACHE_HOME") or os.path.expanduser("~/.cache")
-    for folder in (f"{ROOT}/crates/morris/out/released", f"{cache}/morris"):
-        for at, _, names in os.walk(folder):
-            yield from (f"{at}/{it}" for it in names if it == "morris")
-
-
 def released() -> str:
     """The released program, where the launcher has unpacked it."""
     words = [f"{ROOT}/morris", "--released", "--version"]
     done = subprocess.run(words, capture_output=True, text=True, timeout=MOST_SECONDS)
     if done.returncode:
         refuse(f"the released program doesn't run here: {done.stderr.strip()}")
-    for path in unpacked():
-        if hashlib.sha256(Path(path).read_bytes()).hexdigest() == told()["program"]:
+    cache = os.environ.get("XDG_CACHE_HOME") or os.path.expanduser("~/.cache")
+    for folder in (f"{ROOT}/crates/morris/out/released", f"{cache}/morris"):
+        path = f"{folder}/{told()['program']}/morris"
+        if os.access(path, os.X_OK):
             return path
     refuse("the launcher finds no place in which to keep the released program: unpack it from the "
            "archive in release/, and name it by MORRIS_PROGRAM=PATH")

@@ -4,9 +4,7 @@ docs/FILE_FORMAT.md alone.
 Suites compare what the program looks up with it. It shares nothing with the program.
 """
 
-import functools
 import struct
-from itertools import combinations
 from math import comb
 
 from tests.lib.rules import BOARDS, code_from, halves, name_of
@@ -14,23 +12,6 @@ from tests.lib.rules import BOARDS, code_from, halves, name_of
 
 def rank(places):
     return sum(comb(place, i + 1) for i, place in enumerate(sorted(places)))
-
-
-def mask_of(points):
-    return sum(1 << p for p in points)
-
-
-@functools.cache
-def representatives(board, count):
-    """The number of each set of so many points that no symmetry takes to a lesser mask, by its mask
-    and in the order of the masks."""
-    sets = combinations(board.points, count)
-    least = (
-        mask_of(it)
-        for it in sets
-        if all(mask_of(image[p] for p in it) >= mask_of(it) for image in board.symmetries)
-    )
-    return {mask: number for number, mask in enumerate(sorted(least))}
 
 
 class Entries:
@@ -59,14 +40,13 @@ class Entries:
         first = rank(own)
         if by_classes:
             own, other = self.board.led(position)
-            first = representatives(self.board, len(own))[mask_of(own)]
+            first = self.board.representatives(len(own))[sum(1 << it for it in own)]
         rest = [p for p in self.board.points if p not in own]
         at = first * comb(len(rest), len(other)) + rank(rest.index(p) for p in other)
         if (len(own), len(other)) != pair:
             own_count, other_count = halves(pair)[0]
-            sets = comb(points, own_count)
-            if by_classes:
-                sets = len(representatives(self.board, own_count))
+            classes = len(self.board.representatives(own_count))
+            sets = classes if by_classes else comb(points, own_count)
             at += sets * comb(points - own_count, other_count)
         return pair, 16 + 2 * at
 

@@ -36,23 +36,17 @@ class Board:
         image = self.symmetries[images.index(min(images))]
         return frozenset(image[p] for p in own), frozenset(image[p] for p in other)
 
-    def classes(self, count):
-        """How many classes the sets of so many points have: how many sets a symmetry keeps, on the
-        average."""
-        kept = 0
-        for image in self.symmetries:
-            ways, left = [1] + [0] * count, set(self.points)
-            while left:
-                # A set that is kept has all points of an orbit or none.
-                point, orbit = left.pop(), 1
-                while image[point] in left:
-                    point = image[point]
-                    left.remove(point)
-                    orbit += 1
-                for size in range(count, orbit - 1, -1):
-                    ways[size] += ways[size - orbit]
-            kept += ways[count]
-        return kept // len(self.symmetries)
+    @functools.cache
+    def representatives(self, count):
+        """The number of each set of so many points that no symmetry takes to a lesser mask, by its
+        mask and in the order of the masks."""
+        images = [[1 << it for it in image] for image in self.symmetries]
+        least = []
+        for points in combinations(self.points, count):
+            mask = sum(1 << it for it in points)
+            if all(sum(map(image.__getitem__, points)) >= mask for image in images):
+                least.append(mask)
+        return {mask: number for number, mask in enumerate(sorted(least))}
 
     def stands_in_mill(self, point, stones):
         return any(point in mill and mill <= stones for mill in self.mills)
@@ -177,36 +171,25 @@ class Game:
             self.solve(pair)
 
     def solve(self, pair):
-        nodes = list(positions(pair))
-        results = {it: [result for _, result in GRID.moves(*it)] for it in nodes}
-        mine = set(nodes)
+        left = {it: [to for _, to in GRID.moves(*it)] for it in positions(pair)}
         # No result is decided later than this, and so nothing is once two depths found nothing.
-        latest = max(self.codes.values(), default=0)
-        depth = 0
-        while depth <= latest + 2:
-            found = {}
-            for node in nodes:
-                if node in self.codes:
-                    continue
-                # What isn't decided within depth - 1 plies is open.
-                codes = [self.known(it, depth, mine) for it in results[node]]
-                lost = any(it is not None and it % 2 == 1 and it <= depth for it in codes)
-                stuck = all(it is not None and it and it % 2 == 0 and it <= depth for it in codes)
-                if lost or stuck:
-                    found[node] = depth + 1
-            self.codes.update(found)
-            latest = max(latest, depth if found else 0)
-            depth += 1
-        for node in nodes:
-            self.codes.setdefault(node, 0)
+        code, latest = 0, max(self.codes.values(), default=0)
+        while code <= latest + 2:
+            code += 1
+            decided = [it for it, results in left.items() if self.is_decided(results, code)]
+            for it in decided:
+                self.codes[it], latest = code, code
+                del left[it]
+        self.codes.update(dict.fromkeys(left, 0))
         for version in VERSIONS:
             self.listed[pair, version] = [self.codes[it] for it in entries(pair, version)]
 
-    def known(self, position, depth, mine):
-        if len(position[0]) < 3:
-            return 1
-        code = self.codes.get(position)
-        return None if code is None and position in mine else code
+    def is_decided(self, results, code):
+        """Whether a position has this code by those of its results, of which lesser ones are known:
+        an even one by a result that is lost, an odd one where each result is won by now."""
+        codes = [1 if len(it[0]) < 3 else self.codes.get(it, 0) for it in results]
+        won = code % 2 and all(it and it % 2 == 0 and it < code for it in codes)
+        return won or (code % 2 == 0 and code - 1 in codes)
 
     def code(self, position):
         return 1 if len(position[0]) < 3 else self.codes[position]
@@ -233,10 +216,8 @@ def size_of(pair, version, board):
     """How many entries a file of a pair has. In version 2 there is one for each class of sets of
     the player to move and each set of the opponent beside it."""
     points = len(board.points)
-    return sum(
-        (comb(points, own) if version == 1 else board.classes(own)) * comb(points - own, other)
-        for own, other in halves(pair)
-    )
+    sets = lambda own: comb(points, own) if version == 1 else len(board.representatives(own))
+    return sum(sets(own) * comb(points - own, other) for own, other in halves(pair))
 
 
 def file_of(pair, version, codes):
@@ -289,18 +270,12 @@ def read_file(data, board):
     return pair, version, struct.unpack(f">{count}H", data[16:end]), data[end + 32 :]
 
 
-ORDER = {}
-
-
+@functools.cache
 def order_of(pair, version):
     """The positions of the entries, each with its results, and each result with the position whose
     entry tells its value, if it is of this pair."""
-    if (pair, version) not in ORDER:
-        ORDER[pair, version] = [
-            (node, [(it, it if version == 1 else GRID.led(it)) for _, it in GRID.moves(*node)])
-            for node in entries(pair, version)
-        ]
-    return ORDER[pair, version]
+    led = GRID.led if version == 2 else lambda it: it
+    return [(it, [(to, led(to)) for _, to in GRID.moves(*it)]) for it in entries(pair, version)]
 
 
 def check_codes(pair, version, codes, game, where=""):

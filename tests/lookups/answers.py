@@ -4,9 +4,7 @@ Positions are made up with a fixed seed, on both boards and in both versions of 
 prober, which verifies the files first, says the same of them.
 """
 
-import os
 import unittest
-from concurrent.futures import ThreadPoolExecutor
 
 from tests.lib.case import Case
 from tests.lib.chosen import TRIALS, is_built_here
@@ -17,7 +15,7 @@ from tests.lookups.common import FIELDS, OPTIONS, Session, answered, made_up, ov
 from tests.lookups.common import spoiled, threes
 
 # How many of those of 3-3 on the usual board are probed by the program, which verifies the files
-# each time. On the board grid it is asked for all positions.
+# each time.
 PROBED = 8
 # No more seconds does it take to verify 78 million entries on one processor.
 MOST_FOR_REPORTS = 900
@@ -68,24 +66,13 @@ class Answers(Case):
 
 
 class Probed(Case):
-    """What the prober says of the same files."""
-
-    def check_probes(self, tables, asked, given):
-        def probed(position):
-            return run(["probe", tables.name, tables.text(position)], given)
-
-        with ThreadPoolExecutor(os.cpu_count()) as pool:
-            for position, found in zip(asked, pool.map(probed, asked)):
-                self.same(tables.text(position), found, answered(tables.report(position)))
-
-    @over("grid")
-    def test_positions_of_the_board_grid(self, tables, _):
-        given = b"".join(map(tables.file, below((4, 3))))
-        self.check_probes(tables, made_up("grid"), given)
+    """What the prober says of the same files. cli.made_up_input has it probe the board grid."""
 
     @over("nine")
     def test_positions_of_the_usual_board(self, tables, _):
-        self.check_probes(tables, threes("nine")[:PROBED], tables.file((3, 3)))
+        for position in threes("nine")[:PROBED]:
+            words = ["probe", "nine", tables.text(position)]
+            self.expect(words, answered(tables.report(position)), tables.file((3, 3)))
 
     @unittest.skipUnless(is_built_here(TRIALS), NO_TRIALS)
     @over("nine")

@@ -36,38 +36,26 @@ class UsualBoard(Case):
                 self.assertEqual(child.returncode, 0)
                 self.assertLessEqual(usage.ru_maxrss / 1024, MOST_MEGABYTES)
 
-    def found(self, words, value):
-        """How many positions of a file have a value."""
-        return int(self.shown(["find", *words, value, "--all", "--count"]))
-
-    def fields(self, words, pair):
-        """How many positions have each value by the fields of a file, each of this pair."""
-        counts = Counter()
-        for line in self.shown(["stats", *words, "--csv"]).splitlines()[1:]:
-            own, other, result, depth, many = line.split(",")
-            self.assertEqual(sorted((own, other), reverse=True), pair.split("-"), line)
-            counts[f"{result} in {depth}" if depth else result] += int(many)
-        return counts
-
     def test_counts(self):
+        """By the file, without it, as fields, and of the positions that are found."""
         for pair, classes in (("3-3", True), ("3-3", False), ("4-3", True), ("4-4", True)):
             text = self.shown(["stats", "nine", pair, "--classes", "--blocks", "64"])
             words = ["nine", pair, "--from", tables("nine", "4-4", classes)]
+            expected, fields, last = Counter(), Counter(), Counter()
+            for value, kind, many in re.findall(r"(?m)^((won|lost|draw).*): (\d+)$", text):
+                expected.update({it: int(many) for it in (value, kind)})
+                # The depths of a kind ascend.
+                last[kind] = int(many)
+            expected["deepest"] = last["won"] + last["lost"]
+            for line in self.shown(["stats", *words, "--csv"]).splitlines()[1:]:
+                _, _, kind, depth, many = line.split(",")
+                value = f"{kind} in {depth}" if depth else kind
+                fields.update({it: int(many) for it in (value, kind)})
             with self.subTest(pair, classes=classes):
                 self.assertEqual(self.shown(["stats", *words]), text)
-                lines = re.findall(r"(?m)^(won in \d+|lost in \d+|draw): (\d+)$", text)
-                counts = {value: int(many) for value, many in lines}
-                self.assertEqual({it: self.found(words, it) for it in counts}, counts)
-                self.assertEqual(self.fields(words, pair), Counter(counts))
-                totals, deepest = Counter(), {}
-                for value, many in counts.items():
-                    # The depths of a kind ascend.
-                    kind = value.split(" ")[0]
-                    totals[kind] += many
-                    deepest[kind] = many
-                self.assertEqual({it: self.found(words, it) for it in totals}, totals)
-                most = deepest.get("won", 0) + deepest.get("lost", 0)
-                self.assertEqual(self.found(words, "deepest"), most)
+                self.assertEqual(fields | {"deepest": expected["deepest"]}, expected)
+                count = lambda value: int(self.shown(["find", *words, value, "--all", "--count"]))
+                self.assertEqual({it: count(it) for it in expected}, expected)
                 self.check_memory(["stats", *words], ["find", *words, "won", "--all"])
 
     def test_what_is_found_has_its_value(self):
