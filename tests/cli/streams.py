@@ -103,20 +103,16 @@ class Output(Case):
     def test_reader_that_goes_away(self):
         """As `head` does: the bytes that it took or that the pipe still held count as written, and
         the next write is a fault. No signal ends the program."""
-        for command in (["true"], ["head", "-c", "1"]):
-            end, target = os.pipe()
-            # A pipe of one page, so that the bytes of the files don't fit.
-            fcntl.fcntl(target, fcntl.F_SETPIPE_SZ, 4096)
-            with subprocess.Popen(command, stdin=end, stdout=subprocess.DEVNULL):
-                os.close(end)
-                found = run(BUILD, stdout=target)
-                os.close(target)
-            with self.subTest(command):
-                self.assertEqual(found.status, 1)
-                text = rb"fault 23: writing failed after (\d+) bytes\n"
-                written = re.fullmatch(text, found.errors)
-                self.assertTrue(written, found)
-                self.assertLessEqual(int(written[1]), 2 * 4096)
+        end, target = os.pipe()
+        # A pipe of one page, so that the bytes of the files don't fit.
+        fcntl.fcntl(target, fcntl.F_SETPIPE_SZ, 4096)
+        with subprocess.Popen(["head", "-c", "1"], stdin=end, stdout=subprocess.DEVNULL):
+            os.close(end)
+            found = run(BUILD, stdout=target)
+            os.close(target)
+        self.assertEqual(found.status, 1)
+        written = re.fullmatch(rb"fault 23: writing failed after (\d+) bytes\n", found.errors)
+        self.assertTrue(written and int(written[1]) <= 2 * 4096, found)
 
 
 class Input(Case):

@@ -239,18 +239,14 @@ class Sizes(PlaceCase):
             self.same_folder(f"{size} bytes", folder, {LIST: lines, LOCK: b""})
 
     def test_table_files(self):
-        folder = self.new_path()
+        """An old file stays that can't be replaced."""
+        folder, old = self.new_path(), {"4-3": b"old"}
+        put(folder, old)
         for size in (0, 100, 3407, 3408, 5000, 5087):
             done, text = (FIRST, HIGH_UNWRITTEN) if size >= 3408 else ({}, LOW_UNWRITTEN)
             expected = Answer(1, lines_of(done), fault(f"{text}: {folder}: {TOO_LARGE}").errors)
             self.expect([*BUILD, folder], expected, preexec_fn=lambda size=size: limit(size))
-            self.same_folder(f"{size} bytes", folder, {**named(done), LOCK: b""})
-
-    def test_old_file_stays(self):
-        folder = self.new_path()
-        put(folder, {"4-3": b"old"})
-        run([*BUILD, folder], preexec_fn=lambda: limit(5000))
-        self.same_folder("5000 bytes", folder, {LOW: FILES["3-3"], HIGH: b"old", LOCK: b""})
+            self.same_folder(f"{size} bytes", folder, {**named(old | done), LOCK: b""})
 
 
 class Permission(PlaceCase):

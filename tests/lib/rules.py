@@ -7,6 +7,7 @@ nothing with the program.
 import functools
 import hashlib
 import struct
+from collections import Counter
 from itertools import combinations
 from math import comb
 
@@ -334,8 +335,8 @@ def verified(pair, codes):
 
 
 def verify_all(game, board, given):
-    """Verifies files one after the other. At a file's turn those tables are kept whose pairs have at
-    most one stone less than its own."""
+    """Verifies files one after the other. At a file's turn those tables are kept whose pairs have
+    at most one stone less than its own."""
     stock, files, told = set(), 0, ""
     while given:
         try:
@@ -412,34 +413,17 @@ def stats(game, board, text):
     return "".join(f"{it}\n" for it in [*lines, f"draw: {codes.count(0)}"])
 
 
-def counted_by_own(codes, nodes):
-    """How many positions have each number of stones of the player to move and each code."""
-    found = {}
-    for code, (own, other) in zip(codes, nodes):
-        key = len(own), len(other), code
-        found[key] = found.get(key, 0) + 1
-    return found
-
-
-def fields_of(counted):
+def csv(game, board, text):
     """Lines of fields with commas between them: by the stones of the player to move, then draws,
     wins and losses, each by their depth."""
-    lines = ["own,other,result,depth,positions"]
-    results = ["draw", "won", "lost"]
-
-    def order(key):
-        own, _, code = key
-        return own, results.index(in_words(code).split(" ")[0]), code
-
-    for own, other, code in sorted(counted, key=order):
-        result, depth = in_words(code).split(" ")[0], code - 1 if code else ""
-        lines.append(f"{own},{other},{result},{depth},{counted[own, other, code]}")
-    return "".join(f"{it}\n" for it in lines)
-
-
-def csv(game, board, text):
     pair = read_pair(text, board)
-    return fields_of(counted_by_own(game.listed[pair, 1], positions(pair)))
+    numbers = ((len(own), len(other)) for own, other in positions(pair))
+    counted = Counter(zip(numbers, game.listed[pair, 1]))
+    lines = ["own,other,result,depth,positions"]
+    for (own, other), code in sorted(counted, key=lambda it: (it[0], it[1] > 0, it[1] % 2, it[1])):
+        result, _, depth = in_words(code).partition(" in ")
+        lines.append(f"{own},{other},{result},{depth},{counted[(own, other), code]}")
+    return "".join(f"{it}\n" for it in lines)
 
 
 def sharing(position, board):
@@ -450,12 +434,6 @@ def sharing(position, board):
         images = [sum(1 << it[p] for p in came[0]) for it in board.symmetries]
         if images.index(min(images)) == number:
             yield came
-
-
-def is_asked(code, value):
-    """Whether a code says a value: `draw`, `won`, `lost`, or one of these in so many plies."""
-    words = in_words(code)
-    return words == value or words.split(" ")[0] == value
 
 
 def values_asked(codes, value):
@@ -471,7 +449,7 @@ def find(codes, nodes, board, value, every):
     that share an entry."""
     for asked in values_asked(codes, value):
         for code, node in zip(codes, nodes):
-            if is_asked(code, asked):
+            if asked in (in_words(code), in_words(code).split(" ")[0]):
                 for it in sharing(node, board) if every else [node]:
                     yield text_of(it, board)
 
