@@ -46,7 +46,7 @@ NAMED = re.compile(
 )
 # A line that says which number and which text a fault has.
 FAULT = re.compile(
-    r"^(?:fault|flaw)_told \(?(?:fault|flaw)\.(\w+).*? = \((\d+), (.*)\)$", re.MULTILINE
+    r"^(?:fault|flaw)_description \(?(?:fault|flaw)\.(\w+).*? = \((\d+), (.*)\)$", re.MULTILINE
 )
 # A row of test vectors: a board, a position, its places in both versions, and the code there.
 VECTOR = re.compile(

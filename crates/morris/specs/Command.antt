@@ -10,7 +10,7 @@ use Rattle.clap.specs.declared.error.kind.ErrorKind.TheVariants as kind
 use Rattle.morris_jobs.specs.declared.fault.Fault.{Fault}
 use Rattle.morris_jobs.specs.declared.fault.Fault.TheVariants as fault
 use Rattle.morris_jobs.specs.Faults.{Prints}
-use Rattle.morris_jobs.specs.Progress.{TellsInOrder}
+use Rattle.morris_jobs.specs.Progress.{ReportsInOrder}
 use Rattle.morris_words.specs.Words.{AsksFor, faults_of, named_by}
 use Rattle.morris_words.specs.declared.request.Build.{Build}
 use Rattle.morris_words.specs.declared.request.Find.{Find}
@@ -24,7 +24,7 @@ use Rattle.morris_jobs.specs.BoardNames.{board_of}
 use Rattle.morris_commands.specs.Look.{Looks}
 use Rattle.morris_commands.specs.Stats.{AnswersByClasses, AnswersStats}
 use Rattle.morris_commands.specs.Build.{AnswersBuild}
-use Rattle.morris_jobs.specs.Orders.{layout_asked}
+use Rattle.morris_jobs.specs.Building.{layout_for}
 use Rattle.morris_folder_commands.specs.Bundle.{AnswersBundle}
 use Rattle.morris_folder_commands.specs.From.{AnswersFrom}
 use Rattle.morris_folder_commands.specs.Into.{AnswersInto, place_of}
@@ -52,11 +52,11 @@ abbrev pub AsksToShow : Kinds → Type 0
 AsksToShow kinds = IsAmong kind.DisplayHelp kinds ⊎ IsAmong kind.DisplayVersion kinds
 
 -- what `lookup` shows, as its words say it
-abbrev pub shown_of : words.Show → Show
-shown_of wanted.Best = show.Best
-shown_of wanted.Moves = show.Moves
-shown_of wanted.Line = show.Line
-shown_of wanted.Csv = show.Csv
+abbrev pub to_show : words.Show → Show
+to_show wanted.Best = show.Best
+to_show wanted.Moves = show.Moves
+to_show wanted.Line = show.Line
+to_show wanted.Csv = show.Csv
 
 -- how `lookup` ends: texts that have no answer are a fault, which says how many they are
 abbrev pub end_of : Result ℕ Fault → Result (Unit {0}) Fault
@@ -66,10 +66,10 @@ end_of (Err refused) = Err refused
 -- What `lookup` answers: to texts, or, where there are none, to the lines of its input.
 abbrev pub AnswersQueries : List (List ℕ) → Lookup → Input → Input → Option (List ℕ) → Option (List ℕ) → Result (Unit {0}) Fault → Type 0
 AnswersQueries [] asked before after old new result =
-    (ended : Result ℕ Fault) × AnswersInput (board_of asked.board.now) asked.board.now None (shown_of asked.show) before.bytes after.bytes old new ended
+    (ended : Result ℕ Fault) × AnswersInput (board_of asked.board.now) asked.board.now None (to_show asked.show) before.bytes after.bytes old new ended
     × (result ≡ end_of ended)
-AnswersQueries (text ∷ texts) asked before after old new result =
-    (ended : Result ℕ Fault) × AnswersLookup (board_of asked.board.now) asked.board.now None (shown_of asked.show) (text ∷ texts) old new ended
+AnswersQueries (text ∷ strings) asked before after old new result =
+    (ended : Result ℕ Fault) × AnswersLookup (board_of asked.board.now) asked.board.now None (to_show asked.show) (text ∷ strings) old new ended
     × (result ≡ end_of ended)
 
 -- the form in which `stats` prints, as its words say it
@@ -91,8 +91,8 @@ AnswersCount None true asked old new result =
 -- there may be, and else as many as 64 bits count
 abbrev pub shown_as : Option ℕ → Bool → Shown
 shown_as limit true = found.Count
-shown_as None false = found.Texts (2 ^ 64 - 1)
-shown_as (Some most) false = found.Texts most
+shown_as None false = found.Strings (2 ^ 64 - 1)
+shown_as (Some most) false = found.Strings most
 
 -- what `find` answers, by the file of the pair in a folder, whose bytes no contract knows
 abbrev pub AnswersFind : Find → Option (List ℕ) → Option (List ℕ) → Result (Unit {0}) Fault → Type 0
@@ -104,7 +104,7 @@ AnswersFind asked old new result =
 abbrev pub AnswersTables : {A : Type 0} → Option A → Build → Option (List ℕ) → Option (List ℕ) → Result (Unit {0}) Fault → Type 0
 AnswersTables None asked old new result = AnswersBuild (board_of asked.board.now) asked.pair.now asked.workers asked.blocks asked.all asked.classes old new result
 AnswersTables (Some folder) asked old new result =
-    AnswersInto (board_of asked.board.now) (layout_asked asked.classes) asked.board.now asked.pair.now asked.workers asked.blocks (place_of None old)
+    AnswersInto (board_of asked.board.now) (layout_for asked.classes) asked.board.now asked.pair.now asked.workers asked.blocks (place_of None old)
     (place_of None new) result
 
 -- into how many blocks the entries of each pair are cut that `verify` builds
@@ -127,7 +127,7 @@ Answers before after old new (task.Build asked) result = AnswersTables asked.int
 Answers before after old new (task.Verify asked) result = AnswersFiles asked.from asked.all asked before after old new result
 Answers before after old new (task.Probe asked) result = AnswersProbe (board_of asked.board.now) asked.text.now before after old new result
 Answers before after old new (task.Find asked) result = AnswersFind asked old new result
-Answers before after old new (task.Lookup asked) result = AnswersQueries (map (λ t. t.now) asked.texts.items) asked before after old new result
+Answers before after old new (task.Lookup asked) result = AnswersQueries (map (λ t. t.now) asked.strings.items) asked before after old new result
 
 -- whether the command of a task prints tables
 abbrev pub prints_tables : Task → Bool
@@ -153,15 +153,15 @@ folder_of _ = None
 abbrev pub takes_input : Task → Bool
 takes_input (task.Verify asked) = is_none asked.from
 takes_input (task.Probe asked) = true
-takes_input (task.Lookup asked) = length asked.texts.items == 0
+takes_input (task.Lookup asked) = length asked.strings.items == 0
 takes_input _ = false
 
 -- what was told of how far the command is: nothing; or, where the words ask for it, some lines, of
 -- which the first says how much there is to do; on a terminal they take one another's place
-abbrev pub TellsProgress : {E : Type 0} → (E → Option (List ℕ)) → (E → ℕ) → List Text → Bool → E → E → Type 0
-TellsProgress contents failures words on_terminal old new =
+abbrev pub ReportsProgress : {E : Type 0} → (E → Option (List ℕ)) → (E → ℕ) → List Text → Bool → E → E → Type 0
+ReportsProgress contents failures words on_terminal old new =
     (new ≡ old)
-    ⊎ ((request : Request) × AsksFor (named_by words) request × (request.progress ≡ true) × TellsInOrder contents failures on_terminal old new)
+    ⊎ ((request : Request) × AsksFor (named_by words) request × (request.progress ≡ true) × ReportsInOrder contents failures on_terminal old new)
 
 -- the path is that of the folder which the command that was named works in; or there is none
 abbrev pub NamesFolder : List Text → Option (List ℕ) → Type 0

@@ -8,7 +8,7 @@ ghost use Rattle.morris_jobs.specs.Inputs.{Input, MayFail, input_of};
 ghost use Rattle.morris.specs.Reporting.{ReportsAt};
 ghost use Rattle.std.specs.Option.{option_map};
 ghost use Rattle.std.specs.Prelude.{Option, None, List, ℕ};
-ghost use Rattle.morris.specs.Command.{NamesFolder, folder_of, AnswersAt, AnswersCount, AnswersFiles, AnswersFind, AnswersQueries, AsksToRead, Ends, HasMistake, TellsProgress, end_of, form_of, not_text, prints_tables, shown_as, shown_of, status_of, takes_input};
+ghost use Rattle.morris.specs.Command.{NamesFolder, folder_of, AnswersAt, AnswersCount, AnswersFiles, AnswersFind, AnswersQueries, AsksToRead, Ends, HasMistake, ReportsProgress, end_of, form_of, not_text, prints_tables, shown_as, to_show, status_of, takes_input};
 
 use crate::report::{Place, report};
 use morris_board::streams::{Sink, Source};
@@ -22,22 +22,22 @@ use morris_files::system::SystemFolder;
 use morris_folder_commands::bundle::verify_bundle;
 use morris_folder_commands::from::verify_from;
 use morris_folder_commands::into::build_into;
+use morris_jobs::building::{BuildArgs, layout_of};
+use morris_jobs::context::{Context, Parallelism};
 use morris_jobs::counts::Form;
 use morris_jobs::fault::Fault;
 use morris_jobs::on_board;
-use morris_jobs::orders::{Order, layout_of};
 use morris_jobs::print::{print, send};
 use morris_jobs::progress::Progress;
-use morris_jobs::team::{Crew, Team};
-use morris_jobs::teller::Teller;
-use morris_queries::ask::{find_from, stats_from};
+use morris_jobs::progress_printer::ProgressPrinter;
+use morris_queries::file_questions::{find_from, stats_from};
 use morris_queries::find::Shown;
-use morris_queries::lookup::{lookup_lines, lookup_texts};
+use morris_queries::lookup::{lookup_lines, lookup_strings};
 use morris_queries::show::Show;
 use morris_queries::system::SystemLibrary;
+use morris_words::arguments::{Refusal, read_arguments};
 use morris_words::request;
 use morris_words::request::{Build, Find, Lookup, Stats, Task, Verify};
-use morris_words::words::{Refusal, read_words};
 use std::alloc::Global;
 use std::convert::AsStr;
 use std::fs::File;
@@ -79,12 +79,12 @@ pub fn command<
     ensures mistaken { result ≡ 2 → HasMistake (faults_of (map W.text words.now)) }
     ensures silent { result ≡ 2 → output.new ≡ output.old }
     ensures untouched { result ≡ 2 → input.new ≡ input.old }
-    ensures told { result ≡ 2 → (text : _) × ReportsText E.contents E.failures errors.old errors.new text }
+    ensures written { result ≡ 2 → (text : _) × ReportsText E.contents E.failures errors.old errors.new text }
     ensures unread { ¬ AsksToRead (named_by (map W.text words.now)) → input.new ≡ input.old }
     ensures answer { result ≢ 2 → (answer : _) × (midway : _)
         × Ends false (map W.text words.now) (input_of (I.remaining input.old) (I.failures input.old)) (input_of (I.remaining input.new) (I.failures input.new))
         (O.contents output.old) (O.contents output.new) answer
-        × TellsProgress E.contents E.failures (map W.text words.now) false errors.old midway
+        × ReportsProgress E.contents E.failures (map W.text words.now) false errors.old midway
         × (result ≡ status_of answer)
         × ((path : Option (List ℕ)) × (why : _) × NamesFolder (map W.text words.now) path × ReportsAt E.contents E.failures path why midway errors.new answer) }
 {
@@ -133,19 +133,19 @@ pub(crate) fn command_at<
     ensures mistaken { result ≡ 2 → HasMistake (faults_of (map W.text words.now)) }
     ensures silent { result ≡ 2 → output.new ≡ output.old }
     ensures untouched { result ≡ 2 → input.new ≡ input.old }
-    ensures told { result ≡ 2 → (text : _) × ReportsText E.contents E.failures errors.old errors.new text }
+    ensures written { result ≡ 2 → (text : _) × ReportsText E.contents E.failures errors.old errors.new text }
     ensures unread { ¬ AsksToRead (named_by (map W.text words.now)) → input.new ≡ input.old }
     ensures answer { result ≢ 2 → (answer : _) × (midway : _)
         × Ends terminals.output (map W.text words.now) (input_of (I.remaining input.old) (I.failures input.old)) (input_of (I.remaining input.new) (I.failures input.new))
         (O.contents output.old) (O.contents output.new) answer
-        × TellsProgress E.contents E.failures (map W.text words.now) terminals.errors errors.old midway
+        × ReportsProgress E.contents E.failures (map W.text words.now) terminals.errors errors.old midway
         × (result ≡ status_of answer)
         × ((path : Option (List ℕ)) × (why : _) × NamesFolder (map W.text words.now) path × ReportsAt E.contents E.failures path why midway errors.new answer) }
 {
-    match read_words(alloc, words) {
+    match read_arguments(alloc, words) {
         Ok(request) => {
             let path = folder_of(&request.task);
-            let mut progress = Progress::new(rt, request.progress, terminals.errors, errors);
+            let mut progress = ProgressPrinter::new(rt, request.progress, terminals.errors, errors);
             let mut why = None;
             let done = run(
                 rt,
@@ -172,11 +172,11 @@ pub(crate) fn command_at<
 
 /// The exit status where the words of the command line can't be had: memory was refused, which is a
 /// fault, or a word isn't text, which is a mistake in the words.
-pub fn refuse_words<E: Sink>(out_of_memory: bool, errors: &mut E) -> u8
+pub fn refuse_arguments<E: Sink>(out_of_memory: bool, errors: &mut E) -> u8
     requires { E.failures errors.old < 2 ^ 64 - 1 }
     ensures status { result ≡ (if out_of_memory then 1 else 2) }
     ensures reported { IsTrue out_of_memory → ReportsFault E.contents E.failures errors.old errors.new fault.Memory }
-    ensures told { out_of_memory ≡ false → ReportsText E.contents E.failures errors.old errors.new not_text }
+    ensures written { out_of_memory ≡ false → ReportsText E.contents E.failures errors.old errors.new not_text }
 {
     if out_of_memory {
         return finish(Err(Fault::Memory), Place::NONE, errors);
@@ -199,9 +199,14 @@ fn folder_of<'a>(task: &Task<'a>) -> Option<&'a str>
     }
 }
 
-/// Runs the command of a task, and tells `teller` how far it is; `on_terminal` says that `output`
+/// Runs the command of a task, and tells `progress` how far it is; `on_terminal` says that `output`
 /// is a terminal. `why` is what the system said of the task's folder, where it refused something.
-fn run<R: Threads + Wait + Sync + Files<File = File> + AllocGlobal, I: Source, O: Sink, T: Teller>(
+fn run<
+    R: Threads + Wait + Sync + Files<File = File> + AllocGlobal,
+    I: Source,
+    O: Sink,
+    T: Progress,
+>(
     rt: &R,
     alloc: Global,
     task: Task<'_>,
@@ -209,34 +214,34 @@ fn run<R: Threads + Wait + Sync + Files<File = File> + AllocGlobal, I: Source, O
     why: &mut Option<Reason>,
     input: &mut I,
     output: &mut O,
-    teller: &mut T,
+    progress: &mut T,
 ) -> Result<(), Fault>
     requires range { IsInRange task }
     requires streams { MayFail (I.failures input.old) (O.failures output.old) }
     ensures answer { AnswersAt (prints_tables task.entry && on_terminal) (input_of (I.remaining input.old) (I.failures input.old))
         (input_of (I.remaining input.new) (I.failures input.new)) (O.contents output.old) (O.contents output.new) task.entry result }
     ensures unread { takes_input task.entry ≡ false → input.new ≡ input.old }
-    ensures told { T.becomes teller.old teller.new }
+    ensures written { T.becomes progress.old progress.new }
 {
     match task {
         Task::Look(asked) => look(asked.board, asked.text, asked.depth, output),
-        Task::Stats(asked) => count(rt, alloc, asked, why, output, teller),
-        Task::Build(asked) => build(rt, alloc, asked, on_terminal, why, output, teller),
-        Task::Verify(asked) => verify(rt, alloc, asked, why, input, output, teller),
-        Task::Probe(asked) => probe_with(alloc, asked.board, asked.text, input, output, teller),
+        Task::Stats(asked) => count(rt, alloc, asked, why, output, progress),
+        Task::Build(asked) => build(rt, alloc, asked, on_terminal, why, output, progress),
+        Task::Verify(asked) => verify(rt, alloc, asked, why, input, output, progress),
+        Task::Probe(asked) => probe_with(alloc, asked.board, asked.text, input, output, progress),
         Task::Lookup(asked) => look_up(rt, alloc, asked, why, input, output),
         Task::Find(asked) => find(rt, alloc, asked, why, output),
     }
 }
 
 /// The tables that the words ask for.
-fn order_of<'a>(board: &'a str, pair: &'a str, workers: u8, blocks: u16) -> Order<'a>
+fn build_args_of<'a>(board: &'a str, pair: &'a str, workers: u8, blocks: u16) -> BuildArgs<'a>
     ensures board { result.board.now ≡ board.now }
     ensures pair { result.pair.now ≡ pair.now }
     ensures workers { result.workers ≡ workers }
     ensures blocks { result.blocks ≡ blocks }
 {
-    Order {
+    BuildArgs {
         board,
         pair,
         workers: usize::from(workers),
@@ -260,17 +265,17 @@ fn form_of(deepest: bool, csv: bool) -> Form
 /// Counts the values of a pair's positions: those that the file of the pair in a folder states,
 /// where there is a folder; else with `classes` from tables by classes, which so many workers build
 /// over so many blocks, and without it on one thread.
-fn count<R: Threads + Wait + Sync + Files<File = File> + AllocGlobal, O: Sink, T: Teller>(
+fn count<R: Threads + Wait + Sync + Files<File = File> + AllocGlobal, O: Sink, T: Progress>(
     rt: &R,
     alloc: Global,
     asked: Stats<'_>,
     why: &mut Option<Reason>,
     output: &mut O,
-    teller: &mut T,
+    progress: &mut T,
 ) -> Result<(), Fault>
     requires output { O.failures output.old < 2 ^ 64 - 1 }
     ensures answer { AnswersCount asked.entry.from asked.entry.classes asked.entry (O.contents output.old) (O.contents output.new) result }
-    ensures told { T.becomes teller.old teller.new }
+    ensures written { T.becomes progress.old progress.new }
 {
     let Stats { board, pair, .. } = asked;
     let form = form_of(asked.deepest, asked.csv);
@@ -282,10 +287,10 @@ fn count<R: Threads + Wait + Sync + Files<File = File> + AllocGlobal, O: Sink, T
             done
         }
         None if asked.classes => {
-            let order = order_of(board, pair, asked.workers, asked.blocks);
-            stats_by_classes(rt, alloc, order, form, output, teller)
+            let build_args = build_args_of(board, pair, asked.workers, asked.blocks);
+            stats_by_classes(rt, alloc, build_args, form, output, progress)
         }
-        None => stats_with(alloc, board, pair, form, output, teller),
+        None => stats_with(alloc, board, pair, form, output, progress),
     }
 }
 
@@ -298,8 +303,8 @@ fn shown_as(limit: Option<u32>, count: bool) -> Shown
         return Shown::Count;
     }
     match limit {
-        Some(most) => Shown::Texts(u64::from(most)),
-        None => Shown::Texts(u64::MAX),
+        Some(most) => Shown::Strings(u64::from(most)),
+        None => Shown::Strings(u64::MAX),
     }
 }
 
@@ -330,19 +335,19 @@ fn find<R: Files<File = File> + AllocGlobal, O: Sink>(
 
 /// Builds the tables of a pair by so many workers over so many blocks: into the files of a folder,
 /// where there is one, and else onto `output`, unless that is a terminal.
-fn build<R: Threads + Wait + Sync + Files<File = File> + AllocGlobal, O: Sink, T: Teller>(
+fn build<R: Threads + Wait + Sync + Files<File = File> + AllocGlobal, O: Sink, T: Progress>(
     rt: &R,
     alloc: Global,
     asked: Build<'_>,
     on_terminal: bool,
     why: &mut Option<Reason>,
     output: &mut O,
-    teller: &mut T,
+    progress: &mut T,
 ) -> Result<(), Fault>
     requires output { O.failures output.old < 2 ^ 64 - 1 }
     ensures answer { (input : Input) → AnswersAt (is_none asked.entry.into && on_terminal) input input (O.contents output.old) (O.contents output.new)
         (task.Build asked.entry) result }
-    ensures told { T.becomes teller.old teller.new }
+    ensures written { T.becomes progress.old progress.new }
 {
     let Build {
         board,
@@ -353,17 +358,17 @@ fn build<R: Threads + Wait + Sync + Files<File = File> + AllocGlobal, O: Sink, T
         into,
         classes,
     } = asked;
-    let order = order_of(board, pair, workers, blocks);
+    let build_args = build_args_of(board, pair, workers, blocks);
     match into {
         Some(path) => {
             let folder = &mut SystemFolder::new(rt, path);
-            let Order {
+            let BuildArgs {
                 workers,
                 blocks,
                 ..
-            } = order;
+            } = build_args;
             let done = build_into(
-                rt, alloc, board, pair, workers, blocks, classes, folder, output, teller,
+                rt, alloc, board, pair, workers, blocks, classes, folder, output, progress,
             );
             *why = folder.why();
             done
@@ -373,7 +378,7 @@ fn build<R: Threads + Wait + Sync + Files<File = File> + AllocGlobal, O: Sink, T
             let layout = layout_of(classes);
             on_board!(
                 board,
-                build_on::<R, O, T>(rt, alloc, order, all, layout, output, teller)
+                build_on::<R, O, T>(rt, alloc, build_args, all, layout, output, progress)
             )
         }
     }
@@ -385,7 +390,7 @@ fn verify<
     R: Threads + Wait + Sync + Files<File = File> + AllocGlobal,
     I: Source,
     O: Sink,
-    T: Teller,
+    T: Progress,
 >(
     rt: &R,
     alloc: Global,
@@ -393,14 +398,14 @@ fn verify<
     why: &mut Option<Reason>,
     input: &mut I,
     output: &mut O,
-    teller: &mut T,
+    progress: &mut T,
 ) -> Result<(), Fault>
     requires workers { (1 ≤ asked.workers) × (asked.workers ≤ 64) }
     requires streams { MayFail (I.failures input.old) (O.failures output.old) }
     ensures answer { AnswersFiles asked.entry.from asked.entry.all asked.entry (input_of (I.remaining input.old) (I.failures input.old))
         (input_of (I.remaining input.new) (I.failures input.new)) (O.contents output.old) (O.contents output.new) result }
     ensures unread { is_none asked.entry.from ≡ false → input.new ≡ input.old }
-    ensures told { T.becomes teller.old teller.new }
+    ensures written { T.becomes progress.old progress.new }
 {
     let Verify {
         board,
@@ -408,20 +413,24 @@ fn verify<
         from,
         workers,
     } = asked;
-    let Ok(team) = Team::new(usize::from(workers), VERIFIED_BLOCKS) else {
+    let Ok(parallelism) = Parallelism::new(usize::from(workers), VERIFIED_BLOCKS) else {
         unreachable!()
     };
     match from {
         Some(path) => {
             let folder = &mut SystemFolder::new(rt, path);
-            let done = verify_from(rt, alloc, board, team, folder, output, teller);
+            let done = verify_from(rt, alloc, board, parallelism, folder, output, progress);
             *why = folder.why();
             done
         }
-        None if all => verify_bundle(rt, alloc, board, team, input, output, teller),
+        None if all => verify_bundle(rt, alloc, board, parallelism, input, output, progress),
         None => {
-            let crew = Crew { rt, alloc, team };
-            verify_with(crew, board, input, output, teller)
+            let context = Context {
+                rt,
+                alloc,
+                parallelism,
+            };
+            verify_with(context, board, input, output, progress)
         }
     }
 }
@@ -437,22 +446,22 @@ fn look_up<R: Files<File = File> + AllocGlobal, I: Source, O: Sink>(
     output: &mut O,
 ) -> Result<(), Fault>
     requires streams { MayFail (I.failures input.old) (O.failures output.old) }
-    ensures answer { AnswersQueries (map (λ t. t.now) asked.entry.texts.items) asked.entry (input_of (I.remaining input.old) (I.failures input.old))
+    ensures answer { AnswersQueries (map (λ t. t.now) asked.entry.strings.items) asked.entry (input_of (I.remaining input.old) (I.failures input.old))
         (input_of (I.remaining input.new) (I.failures input.new)) (O.contents output.old) (O.contents output.new) result }
-    ensures unread { (length asked.entry.texts.items == 0) ≡ false → input.new ≡ input.old }
+    ensures unread { (length asked.entry.strings.items == 0) ≡ false → input.new ≡ input.old }
 {
     let Lookup {
         board,
         from,
         show,
-        texts,
+        strings,
     } = asked;
     let library = &mut SystemLibrary::new(rt, from);
-    let show = shown(show);
-    let answered = if texts.is_empty() {
+    let show = to_show(show);
+    let answered = if strings.is_empty() {
         lookup_lines(alloc, board, library, input, show, output)
     } else {
-        lookup_texts(alloc, board, library, texts.as_slice(), show, output)
+        lookup_strings(alloc, board, library, strings.as_slice(), show, output)
     };
     *why = library.why();
     end(answered)
@@ -470,8 +479,8 @@ fn end(answered: Result<u64, Fault>) -> Result<(), Fault>
 }
 
 /// What is shown of a position, as the words say it.
-fn shown(show: request::Show) -> Show
-    ensures { result ≡ shown_of show }
+fn to_show(show: request::Show) -> Show
+    ensures { result ≡ to_show show }
 {
     match show {
         request::Show::Best => Show::Best,

@@ -4,14 +4,14 @@ ghost use Rattle.std.specs.IoError.{error_kind};
 ghost use Rattle.std.specs.Process.{exit_status};
 ghost use Rattle.std.specs.Vec.Iter.{into_iter_items};
 ghost use Rattle.std.specs.declared.io.ErrorKind.TheVariants.{OutOfMemory};
-ghost use Rattle.morris.specs.Command.{AsksToRead, Ends, HasMistake, NamesFolder, TellsProgress, not_text, status_of, texts_of};
+ghost use Rattle.morris.specs.Command.{AsksToRead, Ends, HasMistake, NamesFolder, ReportsProgress, not_text, status_of, texts_of};
 ghost use Rattle.morris_jobs.specs.Faults.{ReportsFault, ReportsText};
 ghost use Rattle.morris.specs.Reporting.{ReportsAt};
 ghost use Rattle.morris_jobs.specs.Inputs.{input_of};
 ghost use Rattle.morris_words.specs.Words.{faults_of, named_by};
 ghost use Rattle.morris_jobs.specs.declared.fault.Fault.TheVariants as fault;
 
-use crate::command::{Terminals, command_at, refuse_words};
+use crate::command::{Terminals, command_at, refuse_arguments};
 use morris_board::streams::{Sink, Source};
 use std::alloc::{AllocError, Global};
 use std::env::Args;
@@ -32,7 +32,7 @@ use std::time::Clock;
 /// Where the system gave no words, nothing is read and nothing goes to `output`: with want of
 /// memory the status is 1 and fault 12 goes to `errors`, and with a word that isn't text (of bytes
 /// that aren't UTF-8) it is 2, and one line says so on `errors`.
-pub fn answer_words<
+pub fn answer_arguments<
     R: AllocGlobal + Threads + Wait + Clock + Sync + Files<File = File>,
     I: Source,
     O: Sink,
@@ -51,13 +51,13 @@ pub fn answer_words<
     ensures status { exit_status result ≤ 2 }
     ensures silent { exit_status result ≡ 2 → output.new ≡ output.old }
     ensures untouched { exit_status result ≡ 2 → input.new ≡ input.old }
-    ensures told { exit_status result ≡ 2 → (text : _) × ReportsText E.contents E.failures errors.old errors.new text }
+    ensures written { exit_status result ≡ 2 → (text : _) × ReportsText E.contents E.failures errors.old errors.new text }
     ensures mistaken { IfOk words (λ given. exit_status result ≡ 2 → HasMistake (faults_of (texts_of given))) }
     ensures unread { IfOk words (λ given. ¬ AsksToRead (named_by (texts_of given)) → input.new ≡ input.old) }
     ensures answer { IfOk words (λ given. exit_status result ≢ 2 → (answer : _) × (midway : _)
         × Ends terminals.output (texts_of given) (input_of (I.remaining input.old) (I.failures input.old)) (input_of (I.remaining input.new) (I.failures input.new))
         (O.contents output.old) (O.contents output.new) answer
-        × TellsProgress E.contents E.failures (texts_of given) terminals.errors errors.old midway
+        × ReportsProgress E.contents E.failures (texts_of given) terminals.errors errors.old midway
         × (exit_status result ≡ status_of answer)
         × ((path : Option (List ℕ)) × (why : _) × NamesFolder (texts_of given) path × ReportsAt E.contents E.failures path why midway errors.new answer)) }
 
@@ -75,11 +75,11 @@ pub fn answer_words<
                 let status = command_at(rt, rt.alloc(), words, terminals, input, output, errors);
                 ExitCode::from(status)
             }
-            Err(AllocError) => ExitCode::from(refuse_words(true, errors)),
+            Err(AllocError) => ExitCode::from(refuse_arguments(true, errors)),
         },
         Err(error) => {
             let out_of_memory = error.kind() == ErrorKind::OutOfMemory;
-            ExitCode::from(refuse_words(out_of_memory, errors))
+            ExitCode::from(refuse_arguments(out_of_memory, errors))
         }
     }
 }
@@ -91,8 +91,8 @@ fn list_of(alloc: Global, words: Args) -> Result<Vec<String>, AllocError>
     ensures { IfOk result (λ list. list.items ≡ into_iter_items words) }
 {
     let mut list = Vec::new(alloc);
-    for word in words {
-        list.push(word)?;
+    for argument in words {
+        list.push(argument)?;
     }
     Ok(list)
 }

@@ -7,7 +7,7 @@ mod report;
 
 // The commands from one input to one output, each as one call, with what it is refused for.
 use command::Terminals;
-use entry::answer_words;
+use entry::answer_arguments;
 use morris_board::streams::{FromRead, IntoWrite};
 pub use morris_commands::build::build_out;
 pub use morris_commands::look::look;
@@ -21,7 +21,7 @@ use std::io::IsTerminal;
 use std::process::ExitCode;
 
 fn main(rt: HostRuntime) -> ExitCode {
-    answer_words(
+    answer_arguments(
         &rt,
         env::args(&rt),
         Terminals {

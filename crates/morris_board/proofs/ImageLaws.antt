@@ -4,7 +4,7 @@ use Rattle.std.proofs.Common.{◌≡◌, ℕ, zero, suc, ◌+◌, ◌^◌, ◌<�
 use Rattle.std.proofs.lemmas.Bool.{cases_Bool, cases_eq, cases_lt, eq-eqb, ne_eqb, eqb-true, lt-ltb, ltb-true, and_parts, or_right, both_ways, false_from_ne_true, leb-true}
 use Rattle.std.specs.List.{All, range_with_len, list_all, list_any, Contains}
 use Rattle.std.proofs.lemmas.List.Elements.{All-nil, All-cons, All-contains}
-use Rattle.morris_board.specs.Sets.{has, members, count_of, with_point, without_point, is_within, set_where, set_of}
+use Rattle.morris_board.specs.Sets.{has, members, count_of, with_point, without_point, is_subset, set_where, set_of}
 use Rattle.morris_board.specs.Boards.{Shape, mills_of, is_mill, is_board}
 use Rattle.morris_board.specs.Positions.{Sides, IsApart, IsPosition, is_sized}
 use Rattle.morris_board.specs.Symmetries.{image_of, image_sides, IsSymmetry}
@@ -85,8 +85,8 @@ module _ (f : ℕ → ℕ) where
   image_of-none = ap (λ ks. set_of (map f ks)) members-none
 
   -- a part of a set goes to a part of its image
-  pub image_within : (s t : ℕ) → is_within s t ≡ true → is_within (image_of f s) (image_of f t) ≡ true
-  unfolding is_within
+  pub image_within : (s t : ℕ) → is_subset s t ≡ true → is_subset (image_of f s) (image_of f t) ≡ true
+  unfolding is_subset
   image_within s t h = all_members (image_of f s) (has (image_of f t)) (λ q e.
       let r = image_cases s q e in
       subst (λ x. has (image_of f t) x ≡ true) r.3 (image_has t r.0 r.1 (members_all s (has t) h r.0 r.1 r.2)))
@@ -158,8 +158,8 @@ module _ (n : ℕ) (few : n ≤ 24) (f back : ℕ → ℕ) (o : IsOneToOne n f b
       ∙ sym (has-set_where n test p))
 
   -- one set is a part of another exactly where its image is a part of the other's
-  pub is_within-image : (s t : ℕ) → s < 2 ^ n → t < 2 ^ n → is_within (image_of f s) (image_of f t) ≡ is_within s t
-  is_within-image s t small within = same_test _ _
+  pub is_subset-image : (s t : ℕ) → s < 2 ^ n → t < 2 ^ n → is_subset (image_of f s) (image_of f t) ≡ is_subset s t
+  is_subset-image s t small within = same_test _ _
       (λ h. each_within s t (λ p here.
       let at : p < n = point_lt s n p small here in
       sym (has-image_at t within p at)

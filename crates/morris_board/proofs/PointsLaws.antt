@@ -25,7 +25,7 @@ use Rattle.std.proofs.Math.Pow.{pow-lt}
 use Rattle.std.specs.Int.{trailing_zeros, w32}
 use Rattle.std.proofs.lemmas.Nat.Bits.{shr_and_one, bit_at-trailing_zeros, bit_at_clear_same, bit_at_clear_other}
 use Rattle.std.proofs.Common.{pow-suc, lit<}
-use Rattle.morris_board.specs.Sets.{has, members, count_of, with_point, without_point, is_within, set_where}
+use Rattle.morris_board.specs.Sets.{has, members, count_of, with_point, without_point, is_subset, set_where}
 
 -- ---- what a set has
 
@@ -274,12 +274,12 @@ has-below s p small h = elim (cases_lt p 32) [
   | inr high ↦ absurd (both_ways (has s p) (has-above s 32 p small high) h)
 ]
 
-pub within_each : (s t : ℕ) → s < 2 ^ 32 → is_within s t ≡ true → (p : ℕ) → has s p ≡ true → has t p ≡ true
-unfolding is_within
+pub within_each : (s t : ℕ) → s < 2 ^ 32 → is_subset s t ≡ true → (p : ℕ) → has s p ≡ true → has t p ≡ true
+unfolding is_subset
 within_each s t small h p e = members_all s (has t) h p (has-below s p small e) e
 
-pub each_within : (s t : ℕ) → ((p : ℕ) → has s p ≡ true → has t p ≡ true) → is_within s t ≡ true
-unfolding is_within
+pub each_within : (s t : ℕ) → ((p : ℕ) → has s p ≡ true → has t p ≡ true) → is_subset s t ≡ true
+unfolding is_subset
 each_within s t each = all_members s (has t) each
 
 pub has-and : (s t p : ℕ) → has (bit_and s t) p ≡ (has s p && has t p)
@@ -290,8 +290,8 @@ has-and s t p = ap (λ n. eqb n 1) (bit_at_and s t p) ∙ both (bit_at s p) (bit
     both x y h k = grind (arith, nat_tests)
 
 -- the test that the code makes
-pub is_within-and : (s t : ℕ) → s < 2 ^ 32 → eqb (bit_and s t) s ≡ is_within s t
-is_within-and s t small = same_test _ _
+pub is_subset-and : (s t : ℕ) → s < 2 ^ 32 → eqb (bit_and s t) s ≡ is_subset s t
+is_subset-and s t small = same_test _ _
     (λ h. let e : bit_and s t ≡ s = eqb-true _ _ h in
     each_within s t (λ p y. (and_parts (has s p) (has t p) (sym (has-and s t p) ∙ ap (λ n. has n p) e ∙ y)).1))
     (λ h. eq-eqb _ _ (same_points _ _ (λ p. has-and s t p ∙ absorbed (has s p) (has t p) (within_each s t small h p))))
@@ -443,24 +443,24 @@ module _ (s t : ℕ) (here : has s t ≡ true) (below : (q : ℕ) → q < t → 
   less : s - 1 ≡ above * 2 ^ suc t + (2 ^ t - 1)
   less = omega (arith, cut, pow_pos t)
 
-  less-here : has (s - 1) t ≡ false
+  difference-here : has (s - 1) t ≡ false
   unfolding has
-  less-here = ap (λ n. eqb n 1) (ap (λ n. bit_at n t) less ∙ bit_at_cat_low above (suc t) (2 ^ t - 1) t (omega arith) ∙ bit_at_ones_above t t (omega arith))
+  difference-here = ap (λ n. eqb n 1) (ap (λ n. bit_at n t) less ∙ bit_at_cat_low above (suc t) (2 ^ t - 1) t (omega arith) ∙ bit_at_ones_above t t (omega arith))
 
-  less-above : (q : ℕ) → t < q → has (s - 1) q ≡ has s q
+  difference-above : (q : ℕ) → t < q → has (s - 1) q ≡ has s q
   unfolding has
-  less-above q high =
+  difference-above q high =
       ap (λ n. eqb n 1)
       (ap (λ n. bit_at n q) less
       ∙ bit_at_cat_high above (suc t) (2 ^ t - 1) q (omega (arith, pow-suc 2 t, pow_pos t)) (omega arith)
       ∙ sym (ap (λ n. bit_at n q) cut ∙ bit_at_cat_high above (suc t) (2 ^ t) q (omega (arith, pow-suc 2 t, pow_pos t)) (omega arith)))
 
-  less-each : (q : ℕ) → (has s q && has (s - 1) q) ≡ (not (eqb q t) && has s q)
-  less-each q = elim (cases_lt q t) [
+  difference-each : (q : ℕ) → (has s q && has (s - 1) q) ≡ (not (eqb q t) && has s q)
+  difference-each q = elim (cases_lt q t) [
     | inl low ↦ rw (below q low) (sym (and_right (not (eqb q t)) false refl))
     | inr high ↦ elim (cases_eq q t) [
-      | inl e ↦ rw (e, less-here, eq-eqb t t refl) (and_right (has s t) false refl)
-      | inr differ ↦ rw (less-above q (omega arith), ne_eqb q t differ) (same (has s q))
+      | inl e ↦ rw (e, difference-here, eq-eqb t t refl) (and_right (has s t) false refl)
+      | inr differ ↦ rw (difference-above q (omega arith), ne_eqb q t differ) (same (has s q))
     ]
   ]
     where
@@ -469,7 +469,7 @@ module _ (s t : ℕ) (here : has s t ≡ true) (below : (q : ℕ) → q < t → 
       same false = refl
 
   pub lowest_cleared : bit_and s (s - 1) ≡ without_point s t
-  lowest_cleared = same_points _ _ (λ q. has-and s (s - 1) q ∙ less-each q ∙ sym (has-without s t q))
+  lowest_cleared = same_points _ _ (λ q. has-and s (s - 1) q ∙ difference-each q ∙ sym (has-without s t q))
 
 pub rest_is : (s : ℕ) → s < 2 ^ 32 → members (bit_and s ((s + 4294967295) % 4294967296)) ≡ drop 1 (members s)
 unfolding has
@@ -542,8 +542,8 @@ has-xor s t p = ap (λ n. eqb n 1) (bit_at_xor s t p) ∙ bits (bit_at s p) (bit
     bits (suc (suc x)) y h k = absurd (omega arith)
 
 -- `mask & (mask ^ other)`
-pub has-less : (s t p : ℕ) → has (bit_and s (bit_xor s t)) p ≡ (has s p && not (has t p))
-has-less s t p = has-and s (bit_xor s t) p ∙ ap (λ b. has s p && b) (has-xor s t p) ∙ parts (has s p) (has t p)
+pub has-difference : (s t p : ℕ) → has (bit_and s (bit_xor s t)) p ≡ (has s p && not (has t p))
+has-difference s t p = has-and s (bit_xor s t) p ∙ ap (λ b. has s p && b) (has-xor s t p) ∙ parts (has s p) (has t p)
   where
     parts : (x y : Bool) → (x && differs x y) ≡ (x && not y)
     parts true y = refl

@@ -6,7 +6,7 @@ use Rattle.std.proofs.KnownBytes.{Appends-nil, Appends-trans}
 use Rattle.std.specs.Io.KnownBytes.{Appends}
 use Rattle.morris_board.specs.Streams.{AllSent, CountsFailure, PartSent}
 use Rattle.morris_board.specs.declared.streams.printer.Printer.{Printer}
-use Rattle.morris_board.specs.Printers.{AllOut, CountsUp, GoesOut, IsNew, LetsOut, NoneOut, Outlet, PartOut, Takes, WentOut, failed_of, held_of, lent_of, outlet_of, sink_of, told_of}
+use Rattle.morris_board.specs.Printers.{AllOut, CountsUp, GoesOut, IsNew, LetsOut, NoneOut, Outlet, PartOut, Takes, WentOut, has_failed_of, held_of, lent_of, outlet_of, sink_of, answer_of}
 
 -- a count that goes up by one number, and then by another, goes up by both
 counts_on : (a b c m n s : ℕ) → s ≡ m + n → CountsUp a m b → CountsUp b n c → CountsUp a s c
@@ -73,8 +73,8 @@ module _ {S : Type 0} (contents : S → Option (List ℕ)) (failures : S → ℕ
   }
 
   -- nothing goes out of what is kept
-  keeps : (p : Bool) (a b : Outlet S) (x : List ℕ) → b ≡ a → GoesOut contents failures p p a b x x
-  keeps false a b x e =
+  preserves : (p : Bool) (a b : Outlet S) (x : List ℕ) → b ≡ a → GoesOut contents failures p p a b x x
+  preserves false a b x e =
       let sent : b.sent ≡ a.sent = ap (λ (o : Outlet S). o.sent) e in
       record {
         out = [];
@@ -83,11 +83,11 @@ module _ {S : Type 0} (contents : S → Option (List ℕ)) (failures : S → ℕ
         count = λ few. omega (arith, sent);
         uncounted = ap (λ (o : Outlet S). failures o.sink) e;
       }
-  keeps true a b x e = record { sink = ap (λ (o : Outlet S). o.sink) e; count = ap (λ (o : Outlet S). o.sent) e }
+  preserves true a b x e = record { sink = ap (λ (o : Outlet S). o.sink) e; count = ap (λ (o : Outlet S). o.sent) e }
 
   pub lets_none_out : (a b : Outlet S) (x : List ℕ) → b ≡ a → LetsOut contents failures a b x x
   lets_none_out a b x e =
-      flagged a.failed a.failed a b x x refl (ap (λ (o : Outlet S). o.failed) e) (keeps a.failed a b x e)
+      flagged a.failed a.failed a b x x refl (ap (λ (o : Outlet S). o.failed) e) (preserves a.failed a b x e)
 
   -- all went out
   pub went_out : (a b : Outlet S) (x : List ℕ) (n : ℕ) → a.failed ≡ false → b.failed ≡ false → (a.sent + n < 2 ^ 64 → b.sent ≡ a.sent + n) → failures b.sink ≡ failures a.sink
@@ -135,8 +135,8 @@ module _ {S : Type 0} (contents : S → Option (List ℕ)) (failures : S → ℕ
     same = second.same ∙ first.same;
     lets_out = record {
       goes =
-          subst (λ xs. GoesOut contents failures (failed_of a) (failed_of c) (outlet_of a) (outlet_of c) xs (held_of c)) (append_assoc (held_of a) t u)
-          (goes_on (failed_of a) (failed_of b) (failed_of c) (outlet_of a) (outlet_of b) (outlet_of c) (held_of a ++ t) (held_of b) u (held_of c)
+          subst (λ xs. GoesOut contents failures (has_failed_of a) (has_failed_of c) (outlet_of a) (outlet_of c) xs (held_of c)) (append_assoc (held_of a) t u)
+          (goes_on (has_failed_of a) (has_failed_of b) (has_failed_of c) (outlet_of a) (outlet_of b) (outlet_of c) (held_of a ++ t) (held_of b) u (held_of c)
           first.lets_out.goes second.lets_out.goes);
     };
   }
@@ -188,24 +188,24 @@ module _ {S : Type 0} (contents : S → Option (List ℕ)) (failures : S → ℕ
   told_counted true a b t room part = part.counted (omega (arith, room))
 
   -- what became of a text that was put into a printer that was new, and all let out
-  outcome : (a b : Printer S) (t : List ℕ) → failed_of a ≡ false → held_of a ≡ [] → held_of b ≡ [] → Takes contents failures a b t
-      → GoesOut contents failures false (failed_of b) (outlet_of a) (outlet_of b) t []
+  outcome : (a b : Printer S) (t : List ℕ) → has_failed_of a ≡ false → held_of a ≡ [] → held_of b ≡ [] → Takes contents failures a b t
+      → GoesOut contents failures false (has_failed_of b) (outlet_of a) (outlet_of b) t []
   outcome a b t whole none empty takes =
-      subst (λ p. GoesOut contents failures p (failed_of b) (outlet_of a) (outlet_of b) t []) whole
-      (subst (λ xs. GoesOut contents failures (failed_of a) (failed_of b) (outlet_of a) (outlet_of b) (xs ++ t) []) none
-      (subst (λ ks. GoesOut contents failures (failed_of a) (failed_of b) (outlet_of a) (outlet_of b) (held_of a ++ t) ks) empty takes.lets_out.goes))
+      subst (λ p. GoesOut contents failures p (has_failed_of b) (outlet_of a) (outlet_of b) t []) whole
+      (subst (λ xs. GoesOut contents failures (has_failed_of a) (has_failed_of b) (outlet_of a) (outlet_of b) (xs ++ t) []) none
+      (subst (λ ks. GoesOut contents failures (has_failed_of a) (has_failed_of b) (outlet_of a) (outlet_of b) (held_of a ++ t) ks) empty takes.lets_out.goes))
 
   pub all_told : (a b : Printer S) (t : List ℕ) → IsNew a → held_of b ≡ [] → length t < 2 ^ 64
-      → Takes contents failures a b t → WentOut {T = ℕ} (contents (sink_of a)) (contents (sink_of b)) t (told_of b)
-  all_told a b t new empty few takes = told (failed_of b) (outlet_of a) (outlet_of b) t new.none few (outcome a b t new.whole new.empty empty takes)
+      → Takes contents failures a b t → WentOut {T = ℕ} (contents (sink_of a)) (contents (sink_of b)) t (answer_of b)
+  all_told a b t new empty few takes = told (has_failed_of b) (outlet_of a) (outlet_of b) t new.none few (outcome a b t new.whole new.empty empty takes)
 
   pub whole_told : (a b : Printer S) (t : List ℕ) → IsNew a → held_of b ≡ [] → length t < 2 ^ 64
-      → Takes contents failures a b t → IfOk (told_of b) (λ n. n ≡ length t)
-  whole_told a b t new empty few takes = told_whole (failed_of b) (outlet_of a) (outlet_of b) t new.none few (outcome a b t new.whole new.empty empty takes)
+      → Takes contents failures a b t → IfOk (answer_of b) (λ n. n ≡ length t)
+  whole_told a b t new empty few takes = told_whole (has_failed_of b) (outlet_of a) (outlet_of b) t new.none few (outcome a b t new.whole new.empty empty takes)
 
   pub all_counted : (a b : Printer S) (t : List ℕ) → IsNew a → held_of b ≡ [] → failures (sink_of a) < 2 ^ 64 - 1
-      → Takes contents failures a b t → CountsFailure (failures (sink_of a)) (failures (sink_of b)) (told_of b)
-  all_counted a b t new empty room takes = told_counted (failed_of b) (outlet_of a) (outlet_of b) t room (outcome a b t new.whole new.empty empty takes)
+      → Takes contents failures a b t → CountsFailure (failures (sink_of a)) (failures (sink_of b)) (answer_of b)
+  all_counted a b t new empty room takes = told_counted (has_failed_of b) (outlet_of a) (outlet_of b) t room (outcome a b t new.whole new.empty empty takes)
 
 -- the same, for what was put in already
 module _ {S : Type 0} {contents : S → Option (List ℕ)} {failures : S → ℕ} {a b c : Printer S} {t : List ℕ} where

@@ -160,9 +160,9 @@ module _ (s set : ℕ) (small : set < 2 ^ 24) where
   abbrev pub image : ℕ → ℕ
   image = ring_image (s % 8)
 
-  pub image-kept : s < 8 → rings (image (set % 256)) (image (set / 256 % 256)) (image (set / 65536)) ≡ image_of (nine.image s) set
+  pub image-buffered : s < 8 → rings (image (set % 256)) (image (set / 256 % 256)) (image (set / 65536)) ≡ image_of (nine.image s) set
   unfolding own_ring
-  image-kept low =
+  image-buffered low =
       image-rings s set (omega arith) small _ _ _
       (λ r here. rw (lt-ltb s 8 low) (ring-each (ring_image (s % 8)) (set % 256) (set / 256 % 256) (set / 65536) r))
       (within _ (omega arith)) (within _ (omega arith)) (within _ (omega arith))

@@ -12,7 +12,7 @@ use Rattle.morris_board.specs.declared.faults.TextFault.TheVariants as fault
 use Rattle.morris_board.specs.declared.faults.Stones.{Stones}
 use Rattle.morris_board.specs.Sets.{has}
 use Rattle.morris_board.specs.Boards.{Shape}
-use Rattle.morris_board.specs.Positions.{Sides, IsApart, IsPosition, letter, text_of, is_letter, places_of, shown, read_of, read_letters, is_sized, made, sides}
+use Rattle.morris_board.specs.Positions.{Sides, IsApart, IsPosition, letter, text_of, is_letter, places_of, sides_of_text, read_of, read_letters, is_sized, check_sides, sides}
 use Rattle.morris_board.proofs.PointsLaws.{has-set_where, set_where-lt, same_points, has-above}
 
 -- ---- the characters of a text
@@ -71,8 +71,8 @@ module _ (b : Shape) (s : Sides) (h : IsApart b s) where
         has-places_of c (text_of b s) p ∙ and_left _ _ (le-ltb p (length (text_of b s)) high') ∙ sym (has-above side b.points p small high)
   ])
 
-  pub shown-text_of : shown (text_of b s) ≡ s
-  unfolding shown
+  pub shown-text_of : sides_of_text (text_of b s) ≡ s
+  unfolding sides_of_text
   shown-text_of =
       let own : places_of 88 (text_of b s) ≡ s.own = has-shown 88 s.own h.own_within (λ p low. letter-own s p) in
       let other : places_of 79 (text_of b s) ≡ s.other = has-shown 79 s.other h.other_within (λ p low. letter-other s p (h.apart p)) in
@@ -94,19 +94,19 @@ no_other b s = none (position (λ c. not (is_letter c)) (text_of b s)) refl
 abbrev pub other_at : List ℕ → Option ℕ
 other_at t = position (λ c. not (is_letter c)) t
 
-read_long : (b : Shape) (t : List ℕ) → length t ≡ b.points → read_of b t ≡ read_letters (other_at t) (shown t)
-read_long b t h = ap (λ x. cond x (read_letters (other_at t) (shown t)) (Err fault.Length)) (eq-eqb (length t) b.points h)
+read_long : (b : Shape) (t : List ℕ) → length t ≡ b.points → read_of b t ≡ read_letters (other_at t) (sides_of_text t)
+read_long b t h = ap (λ x. cond x (read_letters (other_at t) (sides_of_text t)) (Err fault.Length)) (eq-eqb (length t) b.points h)
 
 pub read_whole : (b : Shape) (t : List ℕ) → length t ≡ b.points → other_at t ≡ None
-    → read_of b t ≡ cond (is_sized (shown t)) (Ok (shown t)) (Err fault.Stones)
-read_whole b t h none = read_long b t h ∙ ap (λ o. read_letters o (shown t)) none
+    → read_of b t ≡ cond (is_sized (sides_of_text t)) (Ok (sides_of_text t)) (Err fault.Stones)
+read_whole b t h none = read_long b t h ∙ ap (λ o. read_letters o (sides_of_text t)) none
 
 pub read_short : (b : Shape) (t : List ℕ) → length t ≢ b.points → read_of b t ≡ Err fault.Length
-read_short b t n = ap (λ x. cond x (read_letters (other_at t) (shown t)) (Err fault.Length)) (ne_eqb (length t) b.points n)
+read_short b t n = ap (λ x. cond x (read_letters (other_at t) (sides_of_text t)) (Err fault.Length)) (ne_eqb (length t) b.points n)
 
 pub read_bad : (b : Shape) (t : List ℕ) (place : ℕ) → length t ≡ b.points → (first : Option ℕ) → first ≡ other_at t → first ≡ Some place
     → read_of b t ≡ Err (fault.Character place)
-read_bad b t place long first is some = read_long b t long ∙ ap (λ o. read_letters o (shown t)) (sym is ∙ some)
+read_bad b t place long first is some = read_long b t long ∙ ap (λ o. read_letters o (sides_of_text t)) (sym is ∙ some)
 
 -- a position is read back from its text
 pub read_of-text_of : (b : Shape) (s : Sides) → IsPosition b s → read_of b (text_of b s) ≡ Ok s
@@ -120,8 +120,8 @@ complete_of b t s h e = ap (read_of b) (sym e) ∙ read_of-text_of b s h
 
 -- ---- a text shows two sets that have no point in common, and is the text of what it shows
 
-pub IsApart-shown : (b : Shape) (t : List ℕ) → length t ≡ b.points → IsApart b (shown t)
-unfolding shown
+pub IsApart-shown : (b : Shape) (t : List ℕ) → length t ≡ b.points → IsApart b (sides_of_text t)
+unfolding sides_of_text
 IsApart-shown b t h = record {
   own_within = rw (← h) (places_of-lt 88 t);
   other_within = rw (← h) (places_of-lt 79 t);
@@ -131,8 +131,8 @@ IsApart-shown b t h = record {
       has-places_of-below 79 t p (ltb-true _ _ both.0) ∙ ap (λ c. eqb c 79) at;
 }
 
-letter-shown : (t : List ℕ) (p : ℕ) → p < length t → is_letter (get_or t p 0) ≡ true → letter (shown t) p ≡ get_or t p 0
-unfolding letter shown
+letter-shown : (t : List ℕ) (p : ℕ) → p < length t → is_letter (get_or t p 0) ≡ true → letter (sides_of_text t) p ≡ get_or t p 0
+unfolding letter sides_of_text
 letter-shown t p low h =
     rw (has-places_of-below 88 t p low, has-places_of-below 79 t p low) (shows (get_or t p 0) h)
   where
@@ -156,31 +156,31 @@ all_letters t none p low = let first : ℕ = prefix_len (λ c. not (not (is_lett
       sym (not-not (is_letter (get_or t p 0))) ∙ prefix_len_passes (λ c. not (not (is_letter c))) t p 0 here
 ]
 
-pub text_of-shown : (b : Shape) (t : List ℕ) → length t ≡ b.points → other_at t ≡ None → text_of b (shown t) ≡ t
-text_of-shown b t h none = same_number_lists _ _ (length-text_of b (shown t) ∙ sym h) (λ p low.
-    let low' : p < b.points = omega (arith, length-text_of b (shown t)) in
+pub text_of-shown : (b : Shape) (t : List ℕ) → length t ≡ b.points → other_at t ≡ None → text_of b (sides_of_text t) ≡ t
+text_of-shown b t h none = same_number_lists _ _ (length-text_of b (sides_of_text t) ∙ sym h) (λ p low.
+    let low' : p < b.points = omega (arith, length-text_of b (sides_of_text t)) in
     let low'' : p < length t = omega arith in
-    get_or-text_of b (shown t) p low' ∙ letter-shown t p low'' (all_letters t none p low''))
+    get_or-text_of b (sides_of_text t) p low' ∙ letter-shown t p low'' (all_letters t none p low''))
 
 pub shows_of : (b : Shape) (t : List ℕ) (s : Sides) → read_of b t ≡ Ok s → text_of b s ≡ t
 shows_of b t s e = elim (cases_eq (length t) b.points) [
   | inr n ↦
-      let bad : read_of b t ≡ Err fault.Length = ap (λ x. cond x (read_letters (other_at t) (shown t)) (Err fault.Length)) (ne_eqb (length t) b.points n) in
+      let bad : read_of b t ≡ Err fault.Length = ap (λ x. cond x (read_letters (other_at t) (sides_of_text t)) (Err fault.Length)) (ne_eqb (length t) b.points n) in
       cc
   | inl h ↦ some h (other_at t) refl
 ]
   where
     some : length t ≡ b.points → (o : Option ℕ) → other_at t ≡ o → text_of b s ≡ t
     some h (Some i) k =
-        let bad : read_of b t ≡ Err (fault.Character i) = read_long b t h ∙ ap (λ o. read_letters o (shown t)) k in
+        let bad : read_of b t ≡ Err (fault.Character i) = read_long b t h ∙ ap (λ o. read_letters o (sides_of_text t)) k in
         cc
-    some h None k = elim (cases_Bool (is_sized (shown t))) [
+    some h None k = elim (cases_Bool (is_sized (sides_of_text t))) [
       | inr n ↦
-          let bad : read_of b t ≡ Err fault.Stones = read_whole b t h k ∙ ap (λ x. cond x (Ok (shown t)) (Err fault.Stones)) n in
+          let bad : read_of b t ≡ Err fault.Stones = read_whole b t h k ∙ ap (λ x. cond x (Ok (sides_of_text t)) (Err fault.Stones)) n in
           cc
       | inl y ↦
-          let good : read_of b t ≡ Ok (shown t) = read_whole b t h k ∙ ap (λ x. cond x (Ok (shown t)) (Err fault.Stones)) y in
-          let same : s ≡ shown t = cc in
+          let good : read_of b t ≡ Ok (sides_of_text t) = read_whole b t h k ∙ ap (λ x. cond x (Ok (sides_of_text t)) (Err fault.Stones)) y in
+          let same : s ≡ sides_of_text t = cc in
           ap (text_of b) same ∙ text_of-shown b t h k
     ]
 
@@ -188,19 +188,19 @@ shows_of b t s e = elim (cases_eq (length t) b.points) [
 module _ (b : Shape) (t : List ℕ) (own other : ℕ) (long : length t ≡ b.points)
     (first : Option ℕ) (first_is : first ≡ other_at t) (none_first : first ≡ None)
     (own_is : own ≡ places_of 88 t) (other_is : other ≡ places_of 79 t)
-    (r : Result Sides Stones) (r_is : r ≡ made (sides own other)) where
-  are_shown : sides own other ≡ shown t
-  unfolding shown
+    (r : Result Sides Stones) (r_is : r ≡ check_sides (sides own other)) where
+  are_shown : sides own other ≡ sides_of_text t
+  unfolding sides_of_text
   are_shown = rw (own_is, other_is) refl
 
   answer_made : MatchResult r (λ s. read_of b t ≡ Ok s) (λ e. read_of b t ≡ Err fault.Stones)
-  answer_made = let none : other_at t ≡ None = sym first_is ∙ none_first in elim (cases_Bool (is_sized (shown t))) [
+  answer_made = let none : other_at t ≡ None = sym first_is ∙ none_first in elim (cases_Bool (is_sized (sides_of_text t))) [
     | inl y ↦
-        let is : r ≡ Ok (shown t) = r_is ∙ ap made are_shown ∙ ap (λ x. cond x (Ok (shown t)) (Err (record {}))) y in
-        rw is (read_whole b t long none ∙ ap (λ x. cond x (Ok (shown t)) (Err fault.Stones)) y)
+        let is : r ≡ Ok (sides_of_text t) = r_is ∙ ap check_sides are_shown ∙ ap (λ x. cond x (Ok (sides_of_text t)) (Err (record {}))) y in
+        rw is (read_whole b t long none ∙ ap (λ x. cond x (Ok (sides_of_text t)) (Err fault.Stones)) y)
     | inr n ↦
-        let is : r ≡ Err (record {}) = r_is ∙ ap made are_shown ∙ ap (λ x. cond x (Ok (shown t)) (Err (record {}))) n in
-        rw is (read_whole b t long none ∙ ap (λ x. cond x (Ok (shown t)) (Err fault.Stones)) n)
+        let is : r ≡ Err (record {}) = r_is ∙ ap check_sides are_shown ∙ ap (λ x. cond x (Ok (sides_of_text t)) (Err (record {}))) n in
+        rw is (read_whole b t long none ∙ ap (λ x. cond x (Ok (sides_of_text t)) (Err fault.Stones)) n)
   ]
 
   pub ok_made : (s : Sides) → r ≡ Ok s → read_of b t ≡ Ok s

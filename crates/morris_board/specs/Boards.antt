@@ -56,12 +56,12 @@ quarter_turns zero p = p
 quarter_turns (suc n) p = quarter_turn (quarter_turns n p)
 
 -- the mirror takes row r and column c to row c and column r
-abbrev mirrored : ℕ → ℕ
-mirrored p = 3 * (p % 3) + p / 3
+abbrev mirror : ℕ → ℕ
+mirror p = 3 * (p % 3) + p / 3
 
 -- Symmetry s mirrors where s is 4 or more, and then makes s mod 4 quarter turns.
 unfoldable pub grid_image : ℕ → ℕ → ℕ
-grid_image s p = quarter_turns (s % 4) (if nat_le 4 s then mirrored p else p)
+grid_image s p = quarter_turns (s % 4) (if nat_le 4 s then mirror p else p)
 
 -- Grid: nine points in three rows and three columns, point 3 * r + c in row r and column c.
 -- Neighbours in a row and neighbours in a column are adjacent; the rows and then the columns are

@@ -34,8 +34,8 @@ pub record IsPosition (board : Shape) (s : Sides) : Type 0 where
   pub sized : is_sized s ≡ true
 
 -- what two sets of stones make: a position, or a refusal for their numbers
-abbrev pub made : Sides → Result Sides Stones
-made s = if is_sized s then Ok s else Err (record {})
+abbrev pub check_sides : Sides → Result Sides Stones
+check_sides s = if is_sized s then Ok s else Err (record {})
 
 -- The text of a position has a character for each point, in order: `X` (88) for a stone of the
 -- player to move, `O` (79) for one of the opponent, `.` (46) for a vacant point.
@@ -53,8 +53,8 @@ unfoldable pub places_of : ℕ → List ℕ → ℕ
 places_of c text = set_where (length text) (λ p. nat_eq (slice_index text p) c)
 
 -- the stones that a text shows
-unfoldable pub shown : List ℕ → Sides
-shown text = record { own = places_of 88 text; other = places_of 79 text }
+unfoldable pub sides_of_text : List ℕ → Sides
+sides_of_text text = record { own = places_of 88 text; other = places_of 79 text }
 
 -- What reading a text gives: a refusal for a length that isn't one character per point, then for
 -- the first character that is none of the three, then for the numbers of stones; and otherwise the
@@ -64,4 +64,4 @@ read_letters (Some place) s = Err (fault.Character place)
 read_letters None s = if is_sized s then Ok s else Err fault.Stones
 
 abbrev pub read_of : Shape → List ℕ → Result Sides TextFault
-read_of board text = if nat_eq (length text) board.points then read_letters (position (λ c. not (is_letter c)) text) (shown text) else Err fault.Length
+read_of board text = if nat_eq (length text) board.points then read_letters (position (λ c. not (is_letter c)) text) (sides_of_text text) else Err fault.Length

@@ -21,18 +21,18 @@ abbrev pub sent_of : {S : Type 0} → Printer S → ℕ
 sent_of p = p.sent
 
 -- whether a write failed
-abbrev pub failed_of : {S : Type 0} → Printer S → Bool
-failed_of p = p.failed
+abbrev pub has_failed_of : {S : Type 0} → Printer S → Bool
+has_failed_of p = p.failed
 
 -- what is told at the end: how many bytes went out, as a refusal where a write failed
-abbrev pub told_of : {S : Type 0} → Printer S → Result ℕ ℕ
-told_of p = if failed_of p then Err (sent_of p) else Ok (sent_of p)
+abbrev pub answer_of : {S : Type 0} → Printer S → Result ℕ ℕ
+answer_of p = if has_failed_of p then Err (sent_of p) else Ok (sent_of p)
 
 -- nothing was put in yet
 pub record IsNew {S : Type 0} (p : Printer S) : Type 0 where
   pub empty : held_of p ≡ []
   pub none : sent_of p ≡ 0
-  pub whole : failed_of p ≡ false
+  pub whole : has_failed_of p ≡ false
 
 -- a count went up by so many, where 64 bits hold it then
 abbrev pub CountsUp : ℕ → ℕ → ℕ → Type 0
@@ -48,13 +48,13 @@ abbrev pub outlet : {S : Type 0} → S → ℕ → Bool → Outlet S
 outlet sink sent failed = record { sink = sink; sent = sent; failed = failed }
 
 abbrev pub outlet_of : {S : Type 0} → Printer S → Outlet S
-outlet_of p = outlet (sink_of p) (sent_of p) (failed_of p)
+outlet_of p = outlet (sink_of p) (sent_of p) (has_failed_of p)
 
 module _ {S : Type 0} (contents : S → Option (List ℕ)) (failures : S → ℕ) where
   -- of these bytes all went out that aren't kept
-  pub record AllOut (old new : Outlet S) (bytes kept : List ℕ) : Type 0 where
+  pub record AllOut (old new : Outlet S) (bytes buffered : List ℕ) : Type 0 where
     pub out : List ℕ
-    pub split : bytes ≡ out ++ kept
+    pub split : bytes ≡ out ++ buffered
     pub appended : Appends (contents old.sink) (contents new.sink) out
     pub count : CountsUp old.sent (length out) new.sent
     pub uncounted : failures new.sink ≡ failures old.sink
@@ -76,13 +76,13 @@ module _ {S : Type 0} (contents : S → Option (List ℕ)) (failures : S → ℕ
 
   -- by whether a write had failed before, and whether one has now: after it nothing goes out
   abbrev pub GoesOut : Bool → Bool → Outlet S → Outlet S → List ℕ → List ℕ → Type 0
-  GoesOut false false old new bytes kept = AllOut old new bytes kept
-  GoesOut false true old new bytes kept = PartOut old new bytes
-  GoesOut true false old new bytes kept = ⊥
-  GoesOut true true old new bytes kept = NoneOut old new
+  GoesOut false false old new bytes buffered = AllOut old new bytes buffered
+  GoesOut false true old new bytes buffered = PartOut old new bytes
+  GoesOut true false old new bytes buffered = ⊥
+  GoesOut true true old new bytes buffered = NoneOut old new
 
-  pub record LetsOut (old new : Outlet S) (bytes kept : List ℕ) : Type 0 where
-    pub goes : GoesOut old.failed new.failed old new bytes kept
+  pub record LetsOut (old new : Outlet S) (bytes buffered : List ℕ) : Type 0 where
+    pub goes : GoesOut old.failed new.failed old new bytes buffered
 
   -- a text was put in: what was held, and then the text, was let out but for what is held now
   pub record Takes (old new : Printer S) (text : List ℕ) : Type 0 where

@@ -24,8 +24,8 @@ unfoldable pub without_point : ℕ → ℕ → ℕ
 without_point s p = if has s p then bit_xor s (2 ^ p) else s
 
 -- whether each point of s is one of t
-unfoldable pub is_within : ℕ → ℕ → Bool
-is_within s t = list_all (has t) (members s)
+unfoldable pub is_subset : ℕ → ℕ → Bool
+is_subset s t = list_all (has t) (members s)
 
 -- the points below n at which the test holds
 unfoldable pub set_where : ℕ → (ℕ → Bool) → ℕ

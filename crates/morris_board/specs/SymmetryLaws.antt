@@ -45,18 +45,18 @@ swapped false false = refl
 abbrev joins : ℕ → ℕ → ℕ × ℕ → Bool
 joins p q e = (eqb e.0 p && eqb e.1 q) || (eqb e.0 q && eqb e.1 p)
 
-turned_round : (p q : ℕ) (es : List (ℕ × ℕ)) → list_any (joins p q) es ≡ list_any (joins q p) es
-turned_round p q [] = refl
-turned_round p q (e ∷ es) = rw (swapped (eqb e.0 p && eqb e.1 q) (eqb e.0 q && eqb e.1 p), turned_round p q es) refl
+either_way : (p q : ℕ) (es : List (ℕ × ℕ)) → list_any (joins p q) es ≡ list_any (joins q p) es
+either_way p q [] = refl
+either_way p q (e ∷ es) = rw (swapped (eqb e.0 p && eqb e.1 q) (eqb e.0 q && eqb e.1 p), either_way p q es) refl
 
 -- whether the image of each edge is an edge
-abbrev keeps_edges : Shape → (ℕ → ℕ) → Bool
-keeps_edges board f = list_all (λ e. is_adjacent board (f e.0) (f e.1)) board.edges
+abbrev preserves_edges : Shape → (ℕ → ℕ) → Bool
+preserves_edges board f = list_all (λ e. is_adjacent board (f e.0) (f e.1)) board.edges
 
 module _ (board : Shape) (f : ℕ → ℕ) where
   other_way : (p q : ℕ) → is_adjacent board p q ≡ is_adjacent board q p
   unfolding is_adjacent
-  other_way p q = turned_round p q board.edges
+  other_way p q = either_way p q board.edges
 
   edge_image : (p q : ℕ) (es : List (ℕ × ℕ)) → list_all (λ e. is_adjacent board (f e.0) (f e.1)) es ≡ true → list_any (joins p q) es ≡ true
       → is_adjacent board (f p) (f q) ≡ true
@@ -79,18 +79,18 @@ module _ (board : Shape) (f : ℕ → ℕ) where
   unfolding is_adjacent
   any_edge p q h = h
 
-  adjacent_image : keeps_edges board f ≡ true → (p q : ℕ) → is_adjacent board p q ≡ true → is_adjacent board (f p) (f q) ≡ true
-  adjacent_image keeps p q h = edge_image p q board.edges keeps (any_edge p q h)
+  adjacent_image : preserves_edges board f ≡ true → (p q : ℕ) → is_adjacent board p q ≡ true → is_adjacent board (f p) (f q) ≡ true
+  adjacent_image preserves p q h = edge_image p q board.edges preserves (any_edge p q h)
 
 -- ---- mills
 
 -- whether the image of each mill is a mill
-abbrev keeps_mills : Shape → (ℕ → ℕ) → Bool
-keeps_mills board f = list_all (λ m. list_any (eqb (image_of f m)) (mills_of board)) (mills_of board)
+abbrev preserves_mills : Shape → (ℕ → ℕ) → Bool
+preserves_mills board f = list_all (λ m. list_any (eqb (image_of f m)) (mills_of board)) (mills_of board)
 
-mill_image : (board : Shape) (f : ℕ → ℕ) → keeps_mills board f ≡ true → (m : ℕ) → Contains (mills_of board) m → Contains (mills_of board) (image_of f m)
-mill_image board f keeps m here =
-    Contains-from_any {eq = eqb} eqb-true (image_of f m) (mills_of board) (element (λ x. list_any (eqb (image_of f x)) (mills_of board)) (mills_of board) keeps m here)
+mill_image : (board : Shape) (f : ℕ → ℕ) → preserves_mills board f ≡ true → (m : ℕ) → Contains (mills_of board) m → Contains (mills_of board) (image_of f m)
+mill_image board f preserves m here =
+    Contains-from_any {eq = eqb} eqb-true (image_of f m) (mills_of board) (element (λ x. list_any (eqb (image_of f x)) (mills_of board)) (mills_of board) preserves m here)
 
 -- ---- all symmetries of a board
 
@@ -110,8 +110,8 @@ composite s t =
 -- the tests of a board
 record Tests (board : Shape) : Type 0 where
   back : all_symmetries board (λ s. leads_back board.points (board.image s) (board.image (inverse_of s))) ≡ true
-  edges : all_symmetries board (λ s. keeps_edges board (board.image s)) ≡ true
-  mills : all_symmetries board (λ s. keeps_mills board (board.image s)) ≡ true
+  edges : all_symmetries board (λ s. preserves_edges board (board.image s)) ≡ true
+  mills : all_symmetries board (λ s. preserves_mills board (board.image s)) ≡ true
   inverses : all_symmetries board (λ s. ltb (inverse_of s) board.symmetries && eqb (inverse_of (inverse_of s)) s) ≡ true
   same : list_all (λ p. eqb (board.image 0 p) p) (range_with_len 0 board.points) ≡ true
   composed : all_symmetries board (λ s. all_symmetries board (λ t. ltb (composite s t) board.symmetries

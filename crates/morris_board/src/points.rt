@@ -1,7 +1,7 @@
 //! Sets of points of a board.
 ghost use Rattle.std.specs.Prelude.{◌≡◌, ℕ, ◌<◌, ◌≤◌, ◌^◌, length, List, [], ◌∷◌, filter, drop, nat_lt, true, not, ◌&&◌, ◌||◌, IfSome, MatchOption};
 ghost use Rattle.std.specs.Iterator.{YieldsFirst, item_count};
-ghost use Rattle.morris_board.specs.Sets.{has, members, count_of, with_point, without_point, is_within};
+ghost use Rattle.morris_board.specs.Sets.{has, members, count_of, with_point, without_point, is_subset};
 
 use std::marker::Model;
 
@@ -94,7 +94,7 @@ impl Points {
     }
 
     /// The points of this set and those of `other`.
-    pub fn joined(self, other: Points) -> Points
+    pub fn union(self, other: Points) -> Points
         ensures { (p : ℕ) → has result p ≡ (has self p || has other p) }
     {
         Points {
@@ -103,7 +103,7 @@ impl Points {
     }
 
     /// The points of this set that are points of `other` too.
-    pub fn common(self, other: Points) -> Points
+    pub fn intersection(self, other: Points) -> Points
         ensures { (p : ℕ) → has result p ≡ (has self p && has other p) }
     {
         Points {
@@ -112,7 +112,7 @@ impl Points {
     }
 
     /// The points of this set that aren't points of `other`.
-    pub fn less(self, other: Points) -> Points
+    pub fn difference(self, other: Points) -> Points
         ensures { (p : ℕ) → has result p ≡ (has self p && not (has other p)) }
     {
         Points {
@@ -121,8 +121,8 @@ impl Points {
     }
 
     /// Whether each point of this set is one of `other`.
-    pub fn is_within(self, other: Points) -> bool
-        ensures { result ≡ is_within self other }
+    pub fn is_subset(self, other: Points) -> bool
+        ensures { result ≡ is_subset self other }
     {
         self.mask & other.mask == self.mask
     }
@@ -140,7 +140,7 @@ impl Points {
     }
 
     /// The set less its least point, or the empty set where it has none.
-    pub fn rest(self) -> Points
+    pub fn without_first(self) -> Points
         ensures { members result ≡ drop 1 (members self) }
     {
         Points {
@@ -180,7 +180,7 @@ impl Iterator for PointsIter {
 
     fn next(&mut self) -> Option<u8> {
         let point = self.left.first()?;
-        self.left = self.left.rest();
+        self.left = self.left.without_first();
         Some(point)
     }
 }

@@ -1,7 +1,7 @@
 //! Positions and their texts.
 ghost use Rattle.std.specs.Prelude.{◌≡◌, ℕ, ◌<◌, ◌≤◌, length, not, position, IfOk, Ok};
 ghost use Rattle.morris_board.specs.Sets.{count_of, set_where};
-ghost use Rattle.morris_board.specs.Positions.{Sides, sides, IsApart, IsPosition, made, is_between, letter, text_of, read_of, is_letter, places_of};
+ghost use Rattle.morris_board.specs.Positions.{Sides, sides, IsApart, IsPosition, check_sides, is_between, letter, text_of, read_of, is_letter, places_of};
 ghost use Rattle.morris_board.specs.Symmetries.{image_sides, inverse_of};
 
 use crate::board::Geometry;
@@ -40,7 +40,7 @@ impl<B: Geometry> Position<B> {
     /// 9.
     pub fn new(own: Points, other: Points) -> Result<Position<B>, Stones>
         requires { IsApart B.shape (sides own other) }
-        ensures { result ≡ made (sides own other) }
+        ensures { result ≡ check_sides (sides own other) }
     {
         if is_between(2, own.count(), 9) && is_between(3, other.count(), 9) {
             Ok(Position {

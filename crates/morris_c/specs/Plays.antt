@@ -4,7 +4,7 @@ use Rattle.std.specs.Prelude.{◌≡◌, ◌≢◌, ℕ, ℤ, pos, nat_eq, ◌<�
 use Rattle.std.specs.List.{Contains}
 use Rattle.morris_board.specs.Boards.{Shape}
 use Rattle.morris_board.specs.Positions.{Sides, IsPosition}
-use Rattle.morris_moves.specs.declared.step.Move.{Move}
+use Rattle.morris_moves.specs.declared.game_move.Move.{Move}
 use Rattle.morris_moves.specs.Rules.{move, moves_of, result_of}
 use Rattle.morris_pairs.specs.declared.value.Value.TheVariants.{Draw}
 use Rattle.morris_lookup.specs.declared.fault.MaskFault.{MaskFault}
@@ -45,4 +45,4 @@ pub record PlaysMove (board : Shape) (s : Sides) (m : Move) (status : ℤ) (old 
   pub refused : (fault : MaskFault) → IsMaskRefusal board s fault → status ≡ pos (mask_status fault)
   pub illegal : IsPosition board s → (Contains (moves_of board s) m → ⊥) → status ≡ pos 19
   pub played : IsPosition board s → Contains (moves_of board s) m → (status ≡ pos 0) × (new ≡ result_of s m)
-  pub kept : status ≢ pos 0 → new ≡ old
+  pub unchanged : status ≢ pos 0 → new ≡ old

@@ -3,7 +3,7 @@ ghost use Rattle.std.specs.Prelude.{◌≡◌};
 ghost use Rattle.morris_board.specs.Positions.{sides};
 ghost use Rattle.morris_lookup.specs.Checking.{header_said};
 ghost use Rattle.morris_lookup.specs.Views.{contents};
-ghost use Rattle.morris_c.specs.Calls.{LooksUp, ListsMoves, Prepares, TellsHeader};
+ghost use Rattle.morris_c.specs.Calls.{LooksUp, ListsMoves, Prepares, WritesHeader};
 
 use crate::statuses::{DONE, ROOM, mask_status, read_status, view_status};
 use morris_board::board::Geometry;
@@ -26,7 +26,7 @@ pub fn prepare_words<B: Geometry>(words: &mut [u32]) -> i32
 
 /// Writes what the header of a table file says.
 pub fn check_header<B: Geometry>(bytes: &[u8], out: &mut HeaderRecord) -> i32
-    ensures { TellsHeader (header_said B.shape bytes.now) result out.old out.new }
+    ensures { WritesHeader (header_said B.shape bytes.now) result out.old out.new }
 {
     match check::<B>(bytes) {
         Ok(header) => {

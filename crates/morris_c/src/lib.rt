@@ -13,7 +13,7 @@ ghost use Rattle.morris_lookup.specs.Checking.{header_said};
 ghost use Rattle.morris_lookup.specs.Digests.{has_digest};
 ghost use Rattle.morris_lookup.specs.Views.{contents};
 ghost use Rattle.morris_lookup.specs.Prepared.{prepared_count};
-ghost use Rattle.morris_c.specs.Calls.{LooksUp, ListsMoves, Prepares, TellsHeader};
+ghost use Rattle.morris_c.specs.Calls.{LooksUp, ListsMoves, Prepares, WritesHeader};
 ghost use Rattle.morris_c.specs.Plays.{ListsLegalMoves, PlaysMove, move_named};
 
 use calls::{check_header, list_moves, look_up, prepare_words};
@@ -63,8 +63,8 @@ pub extern "C" fn morris_prepare(board: u32, words: &mut [u32]) -> i32
 /// Whether bytes are a table file, and what their header says.
 #[unsafe(no_mangle)]
 pub extern "C" fn morris_check(file: &View<'_>, out: &mut HeaderRecord) -> i32
-    ensures small { slice_index file.now.bytes.now 5 ≡ 1 → TellsHeader (header_said grid file.now.bytes.now) result out.old out.new }
-    ensures usual { slice_index file.now.bytes.now 5 ≢ 1 → TellsHeader (header_said nine file.now.bytes.now) result out.old out.new }
+    ensures small { slice_index file.now.bytes.now 5 ≡ 1 → WritesHeader (header_said grid file.now.bytes.now) result out.old out.new }
+    ensures usual { slice_index file.now.bytes.now 5 ≢ 1 → WritesHeader (header_said nine file.now.bytes.now) result out.old out.new }
 {
     let bytes = file.bytes;
     if bytes.len() > 5 && bytes[5] == 1 {

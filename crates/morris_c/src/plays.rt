@@ -10,8 +10,8 @@ use morris_board::position::Position;
 use morris_lookup::listing::move_count;
 use morris_lookup::masks::position_of;
 use morris_lookup::records::{MoveRecord, NONE, move_record};
+use morris_moves::game_move::Move;
 use morris_moves::rules::{is_legal, moves, play};
-use morris_moves::step::Move;
 use morris_pairs::value::Value;
 
 /// Writes the legal moves of a position, and how many there are.

@@ -13,7 +13,7 @@ use Rattle.morris_pairs.specs.Known.{IsBeyondCodes}
 use Rattle.morris_pairs.specs.Shelves.{Stored, first_missing, table_on}
 use Rattle.morris_pairs.proofs.ShelfLaws.{cases_pair, none-missing}
 use Rattle.morris_commands.specs.Build.{HasExactBut, IsUnbuiltBefore}
-use Rattle.morris_jobs.specs.Orders.{HasExactAt, IsSpared, IsUnbuiltAt, stones}
+use Rattle.morris_jobs.specs.Building.{HasExactAt, ArePruned, IsUnbuiltAt, stones}
 use Rattle.morris_jobs.specs.declared.fault.Fault.{Fault}
 use Rattle.morris_jobs.specs.declared.fault.Fault.TheVariants as fault
 use Rattle.morris_jobs.proofs.NearLaws.{IsNear, below-rises, needs-one_less}
@@ -28,8 +28,8 @@ below_no_more c d m =
 -- of all pairs so far but for one there are the tables that a pair to come may need, and codes
 -- suffice for them
 abbrev pub AreBuiltBut : Shape → Layout → Stored → Counts → List Counts → Type 0
-AreBuiltBut board l stock but done =
-    (d : Counts) → Contains done d → d ≢ but → (IsNear done d → HasExactAt board l stock d) × ¬ IsBeyondCodes board d
+AreBuiltBut board l tables but done =
+    (d : Counts) → Contains done d → d ≢ but → (IsNear done d → HasExactAt board l tables d) × ¬ IsBeyondCodes board d
 
 -- pairs that a test tells apart
 pub told_apart : (c d : Counts) → not (eqb c.greater d.greater && eqb c.lesser d.lesser) ≡ true → c ≢ d
@@ -51,17 +51,17 @@ module _ (board : Shape) (l : Layout) (pair : Counts) (before after : List Count
   unbuilt-one blocks other _ h = absurd h
 
   -- the next pair finds the tables that it needs, also once those of fewer stones are let go
-  pub built-ready : (stock kept : Stored) → NeedsFirst (below_of pair) → AreBuiltBut board l stock pair before → IsSpared stock kept c → first_missing kept c ≡ None
-  built-ready stock kept order has goes = none-missing kept c (λ need m.
+  pub built-ready : (tables kept : Stored) → NeedsFirst (below_of pair) → AreBuiltBut board l tables pair before → ArePruned tables kept c → first_missing kept c ≡ None
+  built-ready tables kept build_args has goes = none-missing kept c (λ need m.
       let less = needs-one_less c need m in
-      let at = (has need (order before after c need (sym split) m) (λ same. absurd (omega (arith, less, ap stones same, below_no_more pair c here)))).0
+      let at = (has need (build_args before after c need (sym split) m) (λ same. absurd (omega (arith, less, ap stones same, below_no_more pair c here)))).0
       (λ e k. omega (arith, below-rises pair before after c e split k, less)) in
       ap is_some (goes need (omega (arith, less)) ∙ at.1))
 
   -- with its own table there are again all that one to come may need
-  pub built-more : (stock kept new : Stored) → AreBuiltBut board l stock pair before → IsSpared stock kept c → HasExactAt board l new c
+  pub built-more : (tables kept new : Stored) → AreBuiltBut board l tables pair before → ArePruned tables kept c → HasExactAt board l new c
       → ¬ IsBeyondCodes board c → ((d : Counts) → d ≢ c → table_on new d ≡ table_on kept d) → AreBuiltBut board l new pair (before ++ c ∷ [])
-  built-more stock kept new has goes here within others = λ d m other. elim (cases_pair d c) [
+  built-more tables kept new has goes here within others = λ d m other. elim (cases_pair d c) [
     | inl same ↦ (λ is_near. subst (HasExactAt board l new) (sym same) here, subst (λ x. ¬ IsBeyondCodes board x) (sym same) within)
     | inr apart ↦ elim (Contains-push_cases before c d m) [
       | inl earlier ↦
@@ -77,8 +77,8 @@ module _ (board : Shape) (l : Layout) (pair : Counts) (before after : List Count
   ]
 
   -- that one pair needs no table of its own
-  pub built-itself : (stock kept : Stored) → AreBuiltBut board l stock pair before → IsSpared stock kept c → c ≡ pair → AreBuiltBut board l kept pair (before ++ c ∷ [])
-  built-itself stock kept has goes itself = λ d m other. elim (Contains-push_cases before c d m) [
+  pub built-itself : (tables kept : Stored) → AreBuiltBut board l tables pair before → ArePruned tables kept c → c ≡ pair → AreBuiltBut board l kept pair (before ++ c ∷ [])
+  built-itself tables kept has goes itself = λ d m other. elim (Contains-push_cases before c d m) [
     | inl earlier ↦
         let was = has d earlier other in (
           λ is_near.
@@ -91,10 +91,10 @@ module _ (board : Shape) (l : Layout) (pair : Counts) (before after : List Count
   ]
 
 -- where all are kept there are those of all pairs so far but for one, also with its own table
-pub every-more : (board : Shape) (l : Layout) (stock kept new : Stored) (but : Counts) (before : List Counts) (c : Counts) → HasExactBut board l stock but before
-    → ((d : Counts) → table_on kept d ≡ table_on stock d) → HasExactAt board l new c → ((d : Counts) → d ≢ c → table_on new d ≡ table_on kept d)
+pub every-more : (board : Shape) (l : Layout) (tables kept new : Stored) (but : Counts) (before : List Counts) (c : Counts) → HasExactBut board l tables but before
+    → ((d : Counts) → table_on kept d ≡ table_on tables d) → HasExactAt board l new c → ((d : Counts) → d ≢ c → table_on new d ≡ table_on kept d)
     → HasExactBut board l new but (before ++ c ∷ [])
-every-more board l stock kept new but before c has all here others = λ d m other. elim (cases_pair d c) [
+every-more board l tables kept new but before c has all here others = λ d m other. elim (cases_pair d c) [
   | inl same ↦ subst (HasExactAt board l new) (sym same) here
   | inr apart ↦ elim (Contains-push_cases before c d m) [
     | inl earlier ↦ let at = has d earlier other in (at.0, others d apart ∙ (all d ∙ at.1), at.2, at.3, at.4)
@@ -102,19 +102,19 @@ every-more board l stock kept new but before c has all here others = λ d m othe
   ]
 ]
 
-pub every-itself : (board : Shape) (l : Layout) (stock kept : Stored) (but : Counts) (before : List Counts) (c : Counts) → HasExactBut board l stock but before
-    → ((d : Counts) → table_on kept d ≡ table_on stock d) → c ≡ but → HasExactBut board l kept but (before ++ c ∷ [])
-every-itself board l stock kept but before c has all itself = λ d m other. elim (Contains-push_cases before c d m) [
+pub every-itself : (board : Shape) (l : Layout) (tables kept : Stored) (but : Counts) (before : List Counts) (c : Counts) → HasExactBut board l tables but before
+    → ((d : Counts) → table_on kept d ≡ table_on tables d) → c ≡ but → HasExactBut board l kept but (before ++ c ∷ [])
+every-itself board l tables kept but before c has all itself = λ d m other. elim (Contains-push_cases before c d m) [
   | inl earlier ↦ let at = has d earlier other in (at.0, all d ∙ at.1, at.2, at.3, at.4)
   | inr is ↦ absurd (other (sym is ∙ itself))
 ]
 
 -- at the end there are the tables that the pair itself needs
-pub built-last : (board : Shape) (l : Layout) (stock : Stored) (pair : Counts) (front : List Counts) → NeedsFirst (below_of pair)
-    → below_of pair ≡ front ++ pair ∷ [] → AreBuiltBut board l stock pair (below_of pair) → first_missing stock pair ≡ None
-built-last board l stock pair front order last has = none-missing stock pair (λ need m.
+pub built-last : (board : Shape) (l : Layout) (tables : Stored) (pair : Counts) (front : List Counts) → NeedsFirst (below_of pair)
+    → below_of pair ≡ front ++ pair ∷ [] → AreBuiltBut board l tables pair (below_of pair) → first_missing tables pair ≡ None
+built-last board l tables pair front build_args last has = none-missing tables pair (λ need m.
     let less = needs-one_less pair need m in
     let there : Contains (below_of pair) need =
-    subst (λ cs. Contains cs need) (sym last) (push front pair need (order front [] pair need last m)) in
+    subst (λ cs. Contains cs need) (sym last) (push front pair need (build_args front [] pair need last m)) in
     let at = (has need there (λ same. absurd (omega (arith, less, ap stones same)))).0 (λ e k. omega (arith, below_no_more pair e k, less)) in
     ap is_some at.1)

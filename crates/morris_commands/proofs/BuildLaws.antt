@@ -14,7 +14,7 @@ use Rattle.morris_pairs.specs.Tables.{IsTable, Table}
 use Rattle.morris_moves.proofs.ListLaws.{Contains-cons_cases, Contains-head, Contains-tail}
 use Rattle.morris_jobs.specs.declared.fault.Fault.TheVariants as fault
 use Rattle.morris_commands.specs.Build.{AnswersFiles, AreTablesOf, HasExact, HasTables, file_on, pairs_written}
-use Rattle.morris_jobs.specs.Orders.{HasExactAt}
+use Rattle.morris_jobs.specs.Building.{HasExactAt}
 
 module _ (f : Counts → List ℕ) where
   -- the files of all pairs are those of the pairs so far, of this one, and of the others
@@ -54,11 +54,11 @@ pub has_tables : (board : Shape) (l : Layout) (shelf : Stored) (pairs : List Cou
 has_tables board l shelf pairs there = λ c m. let here = there c m in ap is_some here.1
 
 -- the tables whose files are written: all, or the last
-pub written_exact : (board : Shape) (l : Layout) (stock : Stored) (pair : Counts) (all : Bool) → (all ≡ true → HasExact board l stock (below_of pair))
-    → HasExactAt board l stock pair → HasExact board l stock (pairs_written all pair)
-written_exact board l stock pair true every last = every refl
-written_exact board l stock pair false every last = λ d m. elim (Contains-cons_cases pair [] d m) [
-  | inl here ↦ subst (HasExactAt board l stock) here last
+pub written_exact : (board : Shape) (l : Layout) (table_set : Stored) (pair : Counts) (all : Bool) → (all ≡ true → HasExact board l table_set (below_of pair))
+    → HasExactAt board l table_set pair → HasExact board l table_set (pairs_written all pair)
+written_exact board l table_set pair true every last = every refl
+written_exact board l table_set pair false every last = λ d m. elim (Contains-cons_cases pair [] d m) [
+  | inl here ↦ subst (HasExactAt board l table_set) here last
   | inr none ↦ absurd (omega (arith, none.1))
 ]
 

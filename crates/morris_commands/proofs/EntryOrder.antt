@@ -10,10 +10,10 @@ use Rattle.morris_board.specs.Symmetries.{HasSymmetries}
 use Rattle.morris_index.specs.Binomials.{choose}
 use Rattle.morris_index.specs.Numbering.{half_index, half_size, number_outside, rank_of}
 use Rattle.morris_index.specs.Classes.{class_of, classes_below, representative_of}
-use Rattle.morris_index.specs.ClassPairs.{class_half_index, class_half_size, class_index_of, led}
+use Rattle.morris_index.specs.ClassPairs.{class_half_index, class_half_size, class_index_of, canonical_form}
 use Rattle.morris_index.specs.Pairs.{Counts, index_of, is_of}
 use Rattle.morris_index.proofs.ClassLaws.{class_lt, representative_count, representative_le, representative_twice, test_from}
-use Rattle.morris_index.proofs.ClassPairLaws.{class_below, class_index-lt, led_itself, led_rank-lt}
+use Rattle.morris_index.proofs.ClassPairLaws.{class_below, class_index-lt, canonical_itself, canonical_rank-lt}
 use Rattle.morris_index.proofs.ClassPairLaws.{index-first as class_index-first, index-second as class_index-second}
 use Rattle.morris_index.proofs.IndexLaws.{half_index-lt, halves_of, index-first, index-second, map_number-none, other_rank-lt, parts_lt, placed}
 use Rattle.morris_index.proofs.OrderLaws.{rank_less}
@@ -68,12 +68,12 @@ module _ (board : Shape) (few : board.points ≤ 24) (y : HasSymmetries board) w
     entry_less : class_of board t.own < class_of board s.own → class_half_index board board.points t < class_half_index board board.points s
     unfolding class_half_index
     entry_less less =
-        let parts : class_of board t.own * choices t + other_rank (led board t) < class_of board s.own * choices t =
-        parts_lt (class_of board t.own) (other_rank (led board t)) (class_of board s.own) (choices t) less (led_rank-lt board board.points few refl y t k) in
+        let parts : class_of board t.own * choices t + other_rank (canonical_form board t) < class_of board s.own * choices t =
+        parts_lt (class_of board t.own) (other_rank (canonical_form board t)) (class_of board s.own) (choices t) less (canonical_rank-lt board board.points few refl y t k) in
         omega (arith, parts, ap (λ c. class_of board s.own * c) same_choices)
 
     entry_same : class_of board t.own ≡ class_of board s.own → class_half_index board board.points s ≤ class_half_index board board.points t
-        → other_rank (led board s) ≤ other_rank (led board t)
+        → other_rank (canonical_form board s) ≤ other_rank (canonical_form board t)
     unfolding class_half_index
     entry_same same le = omega (arith, le, ap₂ (λ x c. x * c) same same_choices)
 
@@ -83,11 +83,11 @@ module _ (board : Shape) (few : board.points ≤ 24) (y : HasSymmetries board) w
       | inl less ↦ before_by_own less
       | inr after ↦ elim (cases_eq s.own t.own) [
         | inl same ↦
-            let s_there : led board s ≡ s = led_itself board board.points few refl y s.own s.other h.stones.own_within h.stones.other_within least in
-            let t_there : led board t ≡ t =
-            led_itself board board.points few refl y t.own t.other k.stones.own_within k.stones.other_within
+            let s_there : canonical_form board s ≡ s = canonical_itself board board.points few refl y s.own s.other h.stones.own_within h.stones.other_within least in
+            let t_there : canonical_form board t ≡ t =
+            canonical_itself board board.points few refl y t.own t.other k.stones.own_within k.stones.other_within
             (ap (representative_of board) (sym same) ∙ least ∙ same) in
-            let ranks : other_rank (led board s) ≤ other_rank (led board t) = entry_same (ap (class_of board) (sym same)) le in
+            let ranks : other_rank (canonical_form board s) ≤ other_rank (canonical_form board t) = entry_same (ap (class_of board) (sym same)) le in
             before_by_other same (omega (arith, ranks, ap other_rank s_there, ap other_rank t_there))
         | inr differ ↦
             let below : representative_of board t.own ≤ t.own = representative_le board few y t.own k.stones.own_within in

@@ -6,8 +6,8 @@ use Rattle.morris_board.specs.Sets.{count_of}
 use Rattle.morris_board.specs.Positions.{Sides}
 use Rattle.morris_index.specs.Pairs.{Counts}
 use Rattle.morris_moves.specs.Rules.{moves_of}
-use Rattle.morris_moves.specs.declared.search.Within.{Within}
-use Rattle.morris_moves.specs.declared.search.Within.TheVariants.{Lost, Won, Unknown}
+use Rattle.morris_moves.specs.declared.within.Within.{Within}
+use Rattle.morris_moves.specs.declared.within.Within.TheVariants.{Lost, Won, Unknown}
 use Rattle.morris_pairs.specs.NetLaws.{moves_of_few}
 use Rattle.morris_probe.specs.Lines.{move_line}
 use Rattle.morris_probe.proofs.LengthLaws.{move_line_few, number_line_few, text_few}

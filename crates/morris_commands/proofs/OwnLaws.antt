@@ -11,7 +11,7 @@ use Rattle.morris_pairs.proofs.ShelfLaws.{cases_pair}
 use Rattle.morris_jobs.specs.declared.fault.Fault.{Fault}
 use Rattle.morris_jobs.specs.declared.fault.Fault.TheVariants as fault
 use Rattle.morris_commands.specs.Build.{HasExact, HasExactBut, HasTooDeep, IsUnbuiltBefore, IsUnbuiltFor, RestsOnTooDeep, pairs_written}
-use Rattle.morris_jobs.specs.Orders.{HasExactAt, IsUnbuiltAt}
+use Rattle.morris_jobs.specs.Building.{HasExactAt, IsUnbuiltAt}
 use Rattle.morris_jobs.specs.declared.counts.Form.{Form}
 use Rattle.morris_commands.specs.Stats.{AnswersCounts, AnswersPair}
 use Rattle.morris_commands.proofs.BuildLaws.{written_exact}
@@ -43,9 +43,9 @@ module _ (board : Shape) (pair : Counts) (blocks : ℕ) where
   unbuilt_itself last _ h = absurd h
 
 -- all tables are there where all are kept, and the pair's own is
-pub with_own : (board : Shape) (l : Layout) (all : Bool) (pair : Counts) (stock new : Stored) → (all ≡ true → HasExactBut board l stock pair (below_of pair))
-    → HasExactAt board l new pair → ((d : Counts) → d ≢ pair → table_on new d ≡ table_on stock d) → HasExact board l new (pairs_written all pair)
-with_own board l all pair stock new every here others =
+pub with_own : (board : Shape) (l : Layout) (all : Bool) (pair : Counts) (tables new : Stored) → (all ≡ true → HasExactBut board l tables pair (below_of pair))
+    → HasExactAt board l new pair → ((d : Counts) → d ≢ pair → table_on new d ≡ table_on tables d) → HasExact board l new (pairs_written all pair)
+with_own board l all pair tables new every here others =
     written_exact board l new pair all
     (λ kept d m. elim (cases_pair d pair) [
       | inl same ↦ subst (HasExactAt board l new) (sym same) here

@@ -12,8 +12,8 @@ use Rattle.morris_pairs.specs.Tables.{IsTable, Table}
 use Rattle.morris_jobs.specs.declared.fault.Fault.{Fault}
 use Rattle.morris_jobs.specs.declared.fault.Fault.TheVariants as fault
 use Rattle.morris_jobs.specs.Faults.{Prints}
-use Rattle.morris_jobs.specs.Answering.{OnBoard, OnOrder}
-use Rattle.morris_jobs.specs.Orders.{HasExactAt, layout_asked}
+use Rattle.morris_jobs.specs.Answering.{OnBoard, OnBuildArgs}
+use Rattle.morris_jobs.specs.Building.{HasExactAt, layout_for}
 
 -- ---- the files
 
@@ -93,9 +93,9 @@ AnswersBuilt board l pair blocks all old new result =
 -- what it answers on a board, of the pair that a text names, with so many workers and blocks
 abbrev pub AnswersBuildOn : {T : Type 0} → Shape → Layout → List ℕ → ℕ → ℕ → Bool → Option (List ℕ) → Option (List ℕ) → Result T Fault → Type 0
 AnswersBuildOn board l text workers blocks all old new result =
-    OnOrder board text workers blocks result (Keeps old new) (λ pair. AnswersBuilt board l pair blocks all old new result)
+    OnBuildArgs board text workers blocks result (Keeps old new) (λ pair. AnswersBuilt board l pair blocks all old new result)
 
 -- what it answers on the board of a name, with tables in the layout that is asked for
 abbrev pub AnswersBuild : {T : Type 0} → Option Shape → List ℕ → ℕ → ℕ → Bool → Bool → Option (List ℕ) → Option (List ℕ) → Result T Fault → Type 0
 AnswersBuild named text workers blocks all classes old new result =
-    OnBoard named result (Keeps old new) (λ board. AnswersBuildOn board (layout_asked classes) text workers blocks all old new result)
+    OnBoard named result (Keeps old new) (λ board. AnswersBuildOn board (layout_for classes) text workers blocks all old new result)

@@ -40,22 +40,22 @@ abbrev pub HasDeepest : {B : Type 0} → Shape → Counts → Deepest B → Type
 HasDeepest board c deepest = IsDeepest board c Won deepest.win × IsDeepest board c Lost deepest.loss
 
 -- whether a code says that outcome: codes of losses are odd, and those of wins even and above 0
-abbrev pub is_told_by : Outcome → ℕ → Bool
-is_told_by Won code = nat_lt 0 code && nat_eq (code % 2) 0
-is_told_by Lost code = nat_eq (code % 2) 1
+abbrev pub is_stated_by : Outcome → ℕ → Bool
+is_stated_by Won code = nat_lt 0 code && nat_eq (code % 2) 0
+is_stated_by Lost code = nat_eq (code % 2) 1
 
 -- of the codes at the first `seen` entries that say the outcome, the one at this entry is the
 -- greatest, and it is the first that is so great
 pub record IsFirstGreatest (outcome : Outcome) (codes : List ℕ) (seen entry : ℕ) : Type 0 where
   pub inside : entry < seen
-  pub told : is_told_by outcome (slice_index codes entry) ≡ true
-  pub none_greater : (i : ℕ) → i < seen → is_told_by outcome (slice_index codes i) ≡ true → slice_index codes i ≤ slice_index codes entry
-  pub least : (i : ℕ) → i < entry → is_told_by outcome (slice_index codes i) ≡ true → slice_index codes i < slice_index codes entry
+  pub reported : is_stated_by outcome (slice_index codes entry) ≡ true
+  pub none_greater : (i : ℕ) → i < seen → is_stated_by outcome (slice_index codes i) ≡ true → slice_index codes i ≤ slice_index codes entry
+  pub least : (i : ℕ) → i < entry → is_stated_by outcome (slice_index codes i) ≡ true → slice_index codes i < slice_index codes entry
 
 -- this entry, or none where none of these codes says the outcome
-abbrev pub IsGreatestTold : Outcome → List ℕ → ℕ → Option ℕ → Type 0
-IsGreatestTold outcome codes seen None = (i : ℕ) → i < seen → is_told_by outcome (slice_index codes i) ≢ true
-IsGreatestTold outcome codes seen (Some entry) = IsFirstGreatest outcome codes seen entry
+abbrev pub IsGreatestStated : Outcome → List ℕ → ℕ → Option ℕ → Type 0
+IsGreatestStated outcome codes seen None = (i : ℕ) → i < seen → is_stated_by outcome (slice_index codes i) ≢ true
+IsGreatestStated outcome codes seen (Some entry) = IsFirstGreatest outcome codes seen entry
 
 -- ---- what is printed
 

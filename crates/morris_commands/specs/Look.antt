@@ -8,8 +8,8 @@ use Rattle.morris_board.specs.Boards.{Shape}
 use Rattle.morris_board.specs.Positions.{Sides, text_of, read_of}
 use Rattle.morris_moves.specs.Rules.{moves_of}
 use Rattle.morris_moves.specs.Values.{AnswersWithin}
-use Rattle.morris_moves.specs.declared.search.Within.{Within}
-use Rattle.morris_moves.specs.declared.search.Within.TheVariants.{Lost, Won, Unknown}
+use Rattle.morris_moves.specs.declared.within.Within.{Within}
+use Rattle.morris_moves.specs.declared.within.Within.TheVariants.{Lost, Won, Unknown}
 use Rattle.morris_probe.specs.Lines.{line, move_line, number_line}
 use Rattle.morris_jobs.specs.declared.fault.Fault.{Fault}
 use Rattle.morris_jobs.specs.Faults.{Prints, text_fault}

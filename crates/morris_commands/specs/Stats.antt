@@ -11,7 +11,7 @@ use Rattle.morris_jobs.specs.declared.fault.Fault.{Fault}
 use Rattle.morris_jobs.specs.declared.fault.Fault.TheVariants as fault
 use Rattle.morris_jobs.specs.Faults.{Prints}
 use Rattle.morris_jobs.specs.PairText.{read_pair_of}
-use Rattle.morris_jobs.specs.Answering.{OnBoard, OnOrder, OnRead}
+use Rattle.morris_jobs.specs.Answering.{OnBoard, OnBuildArgs, OnRead}
 use Rattle.morris_commands.specs.Build.{HasTooDeep, IsUnbuiltFor}
 use Rattle.morris_commands.specs.Deepest.{ShowsDeepest}
 
@@ -53,7 +53,7 @@ AnswersStats named text form old new result = OnBoard named result (Keeps old ne
 -- blocks: it prints the same text
 abbrev pub AnswersByClassesOn : {T : Type 0} → Shape → List ℕ → ℕ → ℕ → Form → Option (List ℕ) → Option (List ℕ) → Result T Fault → Type 0
 AnswersByClassesOn board text workers blocks form old new result =
-    OnOrder board text workers blocks result (Keeps old new) (λ pair. AnswersPair board pair blocks form old new result)
+    OnBuildArgs board text workers blocks result (Keeps old new) (λ pair. AnswersPair board pair blocks form old new result)
 
 abbrev pub AnswersByClasses : {T : Type 0} → Option Shape → List ℕ → ℕ → ℕ → Form → Option (List ℕ) → Option (List ℕ) → Result T Fault → Type 0
 AnswersByClasses named text workers blocks form old new result =

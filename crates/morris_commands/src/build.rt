@@ -12,19 +12,19 @@ ghost use Rattle.morris_pairs.specs.TableFiles.{file_of};
 use morris_board::board::{Board, Geometry};
 use morris_board::streams::Sink;
 use morris_index::pair::Pair;
+use morris_jobs::building::{BuildArgs, build_onto, drop_unneeded, layout_of};
+use morris_jobs::context::{Context, Parallelism};
 use morris_jobs::fault::Fault;
 use morris_jobs::on_board;
-use morris_jobs::orders::{Order, build_onto, layout_of, spare};
 use morris_jobs::pairs::read_pair;
-use morris_jobs::size::Way;
-use morris_jobs::team::{Crew, Team};
-use morris_jobs::teller::Teller;
+use morris_jobs::progress::Progress;
+use morris_jobs::size::Plan;
 use morris_pairs::exact::Exact;
 use morris_pairs::file_faults::Write;
 use morris_pairs::layout::Layout;
 use morris_pairs::table_set::TableSet;
 use morris_pairs::writing::write_table;
-use morris_workers::Unwatched;
+use morris_workers::NoProgress;
 use std::alloc::Global;
 use std::sync::Wait;
 use std::thread::Threads;
@@ -60,7 +60,7 @@ pub fn build_out<R: Threads + Wait + Sync, O: Sink>(
     ensures answer { AnswersBuild (board_of board.now) pair.now workers blocks all classes (O.contents output.old) (O.contents output.new) result }
     ensures counted { CountsWrites (O.failures output.old) (O.failures output.new) result }
 {
-    let order = Order {
+    let build_args = BuildArgs {
         board,
         pair,
         workers,
@@ -69,82 +69,86 @@ pub fn build_out<R: Threads + Wait + Sync, O: Sink>(
     let layout = layout_of(classes);
     on_board!(
         board,
-        build_on::<R, O, Unwatched>(rt, alloc, order, all, layout, output, &mut Unwatched)
+        build_on::<R, O, NoProgress>(rt, alloc, build_args, all, layout, output, &mut NoProgress)
     )
 }
 
 /// Builds and writes on the board `B` what [`build_out`] does on the board of a name, in this
-/// layout; the name in the order isn't looked at. `teller` is told how far it is.
+/// layout; the name in the order isn't looked at. `progress` is told how far it is.
 ///
 /// # Errors
 /// Those of [`build_out`], in the same order, but for [`Fault::Board`].
-pub fn build_on<B: Board, R: Threads + Wait + Sync, O: Sink, T: Teller>(
+pub fn build_on<B: Board, R: Threads + Wait + Sync, O: Sink, T: Progress>(
     rt: &R,
     alloc: Global,
-    order: Order<'_>,
+    build_args: BuildArgs<'_>,
     all: bool,
     layout: Layout,
     output: &mut O,
-    teller: &mut T,
+    progress: &mut T,
 ) -> Result<(), Fault>
     requires { O.failures output.old < 2 ^ 64 - 1 }
-    ensures answer { AnswersBuildOn B.shape layout order.entry.pair.now order.entry.workers order.entry.blocks all
+    ensures answer { AnswersBuildOn B.shape layout build_args.entry.pair.now build_args.entry.workers build_args.entry.blocks all
         (O.contents output.old) (O.contents output.new) result }
     ensures counted { CountsWrites (O.failures output.old) (O.failures output.new) result }
-    ensures told { T.becomes teller.old teller.new }
+    ensures reported { T.becomes progress.old progress.new }
 {
-    let pair = read_pair::<B>(order.pair)?;
-    let team = Team::new(order.workers, order.blocks)?;
-    let crew = Crew { rt, alloc, team };
-    teller.announce(pair, layout, Way::Built { team, all });
-    let mut stock = build_before(crew, layout, all, pair, teller)?;
-    build_onto(crew, &mut stock, layout, pair, teller)?;
-    write_files(&stock, layout, pair, all, output)
+    let pair = read_pair::<B>(build_args.pair)?;
+    let parallelism = Parallelism::new(build_args.workers, build_args.blocks)?;
+    let context = Context {
+        rt,
+        alloc,
+        parallelism,
+    };
+    progress.start(pair, layout, Plan::Built { parallelism, all });
+    let mut tables = build_before(context, layout, all, pair, progress)?;
+    build_onto(context, &mut tables, layout, pair, progress)?;
+    write_files(&tables, layout, pair, all, output)
 }
 
 /// The tables that a pair needs, in a layout: those of all pairs below it but its own are built in
 /// order. But for `all` they are let go once no pair to come needs them.
-pub(crate) fn build_before<B: Board, R: Threads + Wait + Sync, T: Teller>(
-    crew: Crew<'_, R>,
+pub(crate) fn build_before<B: Board, R: Threads + Wait + Sync, T: Progress>(
+    context: Context<'_, R>,
     layout: Layout,
     all: bool,
     pair: Pair<B>,
-    teller: &mut T,
+    progress: &mut T,
 ) -> Result<TableSet<B>, Fault>
     // The caller's proof learns here that the board has as many points as its shape says.
     ensures points { B.shape.points ≡ B.POINTS }
-    ensures ready { IfOk result (λ stock. first_missing stock pair ≡ None) }
-    ensures every { IfOk result (λ stock. all ≡ true → HasExactBut B.shape layout stock pair (below_of pair)) }
+    ensures ready { IfOk result (λ tables. first_missing tables pair ≡ None) }
+    ensures every { IfOk result (λ tables. all ≡ true → HasExactBut B.shape layout tables pair (below_of pair)) }
     ensures last { OnOk result (EndsIn (below_of pair) pair) }
     ensures within { OnOk result (¬ RestsOnTooDeep B.shape pair) }
-    ensures refused { IfErr result (IsUnbuiltBefore B.shape pair crew.entry.team.blocks) }
-    ensures told { T.becomes teller.old teller.new }
+    ensures refused { IfErr result (IsUnbuiltBefore B.shape pair context.entry.parallelism.blocks) }
+    ensures reported { T.becomes progress.old progress.new }
 {
-    let mut stock = TableSet::new(crew.alloc)?;
+    let mut tables = TableSet::new(context.alloc)?;
     for below in pair.below() {
-        spare(&mut stock, all, below);
+        drop_unneeded(&mut tables, all, below);
         if below != pair {
-            build_onto(crew, &mut stock, layout, below, teller)?;
+            build_onto(context, &mut tables, layout, below, progress)?;
         }
     }
-    Ok(stock)
+    Ok(tables)
 }
 
 /// Writes the file of a pair's table, or those of all pairs below it, in a layout.
 fn write_files<B: Geometry, O: Sink>(
-    stock: &TableSet<B>,
+    tables: &TableSet<B>,
     layout: Layout,
     pair: Pair<B>,
     all: bool,
     output: &mut O,
 ) -> Result<(), Fault>
     requires failures { O.failures output.old < 2 ^ 64 - 1 }
-    requires exact { HasExact B.shape layout stock.now (pairs_written all pair) }
+    requires exact { HasExact B.shape layout tables.now (pairs_written all pair) }
     ensures files { AnswersFiles B.shape layout (pairs_written all pair) (O.contents output.old) (O.contents output.new) result }
     ensures unrefused { IfErr result (λ refused. is_write refused ≡ true) }
     ensures counted { CountsWrites (O.failures output.old) (O.failures output.new) result }
 {
-    match send_files(stock, layout, pair, all, output) {
+    match send_files(tables, layout, pair, all, output) {
         Ok(_) => Ok(()),
         Err(sent) => Err(Fault::Write(sent)),
     }
@@ -152,38 +156,38 @@ fn write_files<B: Geometry, O: Sink>(
 
 /// Sends these files, and answers how many bytes went out.
 fn send_files<B: Geometry, O: Sink>(
-    stock: &TableSet<B>,
+    tables: &TableSet<B>,
     layout: Layout,
     pair: Pair<B>,
     all: bool,
     output: &mut O,
 ) -> Result<u64, u64>
     requires failures { O.failures output.old < 2 ^ 64 - 1 }
-    requires exact { HasExact B.shape layout stock.now (pairs_written all pair) }
-    ensures sent { HasSent (O.contents output.old) (O.contents output.new) 0 (flat_map (file_on B.shape stock.now) (pairs_written all pair)) result }
+    requires exact { HasExact B.shape layout tables.now (pairs_written all pair) }
+    ensures sent { HasSent (O.contents output.old) (O.contents output.new) 0 (flat_map (file_on B.shape tables.now) (pairs_written all pair)) result }
     ensures counted { CountsFailure (O.failures output.old) (O.failures output.new) result }
 {
     if all {
-        write_below(stock, pair, output)
+        write_below(tables, pair, output)
     } else {
-        write_one(stock, pair, 0, output)
+        write_one(tables, pair, 0, output)
     }
 }
 
 /// Writes the files of the tables of all pairs below a pair, and answers how many bytes went out.
 fn write_below<B: Geometry, O: Sink>(
-    stock: &TableSet<B>,
+    tables: &TableSet<B>,
     pair: Pair<B>,
     output: &mut O,
 ) -> Result<u64, u64>
     requires failures { O.failures output.old < 2 ^ 64 - 1 }
-    requires there { HasTables stock.now (below_of pair) }
-    ensures sent { HasSent (O.contents output.old) (O.contents output.new) 0 (flat_map (file_on B.shape stock.now) (below_of pair)) result }
+    requires there { HasTables tables.now (below_of pair) }
+    ensures sent { HasSent (O.contents output.old) (O.contents output.new) 0 (flat_map (file_on B.shape tables.now) (below_of pair)) result }
     ensures counted { CountsFailure (O.failures output.old) (O.failures output.new) result }
 {
     let mut sent = 0;
     for below in pair.below() {
-        sent = write_one(stock, below, sent, output)?;
+        sent = write_one(tables, below, sent, output)?;
     }
     Ok(sent)
 }
@@ -191,19 +195,19 @@ fn write_below<B: Geometry, O: Sink>(
 /// Writes the file of a pair's table. `sent` counts the bytes that went out before it; the answer
 /// counts those of the file as well.
 fn write_one<B: Geometry, O: Sink>(
-    stock: &TableSet<B>,
+    tables: &TableSet<B>,
     pair: Pair<B>,
     sent: u64,
     output: &mut O,
 ) -> Result<u64, u64>
     requires failures { O.failures output.old < 2 ^ 64 - 1 }
-    requires there { is_some (table_on stock.now pair) ≡ true }
+    requires there { is_some (table_on tables.now pair) ≡ true }
     requires room { sent < 2 ^ 60 }
-    ensures sent { HasSent (O.contents output.old) (O.contents output.new) sent (file_on B.shape stock.now pair) result }
+    ensures sent { HasSent (O.contents output.old) (O.contents output.new) sent (file_on B.shape tables.now pair) result }
     ensures counted { CountsFailure (O.failures output.old) (O.failures output.new) result }
     ensures few { IfOk result (λ now. now ≤ sent + 2 ^ 42) }
 {
-    let Some(table) = stock.get(pair) else {
+    let Some(table) = tables.get(pair) else {
         unreachable!()
     };
     let length = file_length(table);

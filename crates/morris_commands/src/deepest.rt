@@ -3,7 +3,7 @@ ghost use Rattle.std.specs.Prelude.{◌≡◌, ◌<◌, true, length, IfOk};
 ghost use Rattle.morris_board.specs.Positions.{IsPosition};
 ghost use Rattle.morris_index.specs.Pairs.{is_of};
 ghost use Rattle.morris_pairs.specs.Entries.{entry_count, entry_index, has_own_entry};
-ghost use Rattle.morris_commands.specs.Deepest.{HasDeepest, IsDeepest, IsGreatestTold, is_told_by};
+ghost use Rattle.morris_commands.specs.Deepest.{HasDeepest, IsDeepest, IsGreatestStated, is_stated_by};
 
 use morris_board::board::Geometry;
 use morris_board::position::Position;
@@ -23,8 +23,8 @@ pub enum Outcome {
 
 impl Outcome {
     /// Whether a code says this: codes of losses are odd, and those of wins even and above 0.
-    fn is_told_by(self, code: u16) -> bool
-        ensures { result ≡ is_told_by self code }
+    fn is_stated_by(self, code: u16) -> bool
+        ensures { result ≡ is_stated_by self code }
     {
         match self {
             Outcome::Won => 0 < code && code % 2 == 0,
@@ -90,13 +90,13 @@ pub fn find_deepest<B: Geometry>(
 
 /// The first entry with the greatest code that says the outcome.
 fn deepest_entry<B: Geometry>(table: &Exact<B>, outcome: Outcome) -> Option<u64>
-    ensures { IsGreatestTold outcome table.now.codes (length table.now.codes) result }
+    ensures { IsGreatestStated outcome table.now.codes (length table.now.codes) result }
 {
     let mut greatest = 0;
     let mut found = None;
     for entry in 0..table.len() {
         let code = table.code(entry);
-        if greatest < code && outcome.is_told_by(code) {
+        if greatest < code && outcome.is_stated_by(code) {
             greatest = code;
             found = Some(entry);
         }

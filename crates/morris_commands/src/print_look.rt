@@ -12,7 +12,7 @@ use morris_board::streams::Sink;
 use morris_board::streams::printed::Printed;
 use morris_board::streams::printer::Printer;
 use morris_moves::rules::moves;
-use morris_moves::search::Within;
+use morris_moves::within::Within;
 use morris_probe::print::{put_count, put_move_line, put_number_line, put_position};
 
 /// What `look` prints of a position: how many stones each side has, its legal moves, and its value

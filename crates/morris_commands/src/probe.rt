@@ -14,14 +14,14 @@ use morris_board::streams::{Sink, Source};
 use morris_index::pair::Pair;
 use morris_jobs::fault::Fault;
 use morris_jobs::on_board;
-use morris_jobs::size::Way;
-use morris_jobs::teller::Teller;
+use morris_jobs::progress::Progress;
+use morris_jobs::size::Plan;
 use morris_pairs::exact::Exact;
 use morris_pairs::raw::Raw;
 use morris_pairs::reading::read_next;
 use morris_pairs::shelf::Shelf;
 use morris_probe::report::report;
-use morris_workers::Unwatched;
+use morris_workers::NoProgress;
 use std::alloc::Global;
 
 /// How many table files are taken from the input at most.
@@ -47,10 +47,10 @@ pub fn probe_in<I: Source, O: Sink>(
     ensures unread { ¬ IsAsked (board_of board.now) text.now → input.new ≡ input.old }
     ensures counted { CountsWrites (O.failures output.old) (O.failures output.new) result }
 {
-    probe_with(alloc, board, text, input, output, &mut Unwatched)
+    probe_with(alloc, board, text, input, output, &mut NoProgress)
 }
 
-/// Reports what [`probe_in`] reports, and tells `teller` how far it is.
+/// Reports what [`probe_in`] reports, and tells `progress` how far it is.
 ///
 /// # Errors
 /// [`Fault::Board`] where there is no such board, else [`Fault::Length`], [`Fault::Character`] or
@@ -62,44 +62,44 @@ pub fn probe_in<I: Source, O: Sink>(
 /// of the position, where its table isn't there. [`Fault::Memory`] where memory is refused. In all
 /// these cases nothing is written. Else [`Fault::Write`], with the bytes that went out, at the
 /// first write that fails.
-pub fn probe_with<I: Source, O: Sink, T: Teller>(
+pub fn probe_with<I: Source, O: Sink, T: Progress>(
     alloc: Global,
     board: &str,
     text: &str,
     input: &mut I,
     output: &mut O,
-    teller: &mut T,
+    progress: &mut T,
 ) -> Result<(), Fault>
     requires streams { MayFail (I.failures input.old) (O.failures output.old) }
     ensures answer { AnswersProbe (board_of board.now) text.now (input_of (I.remaining input.old) (I.failures input.old))
         (input_of (I.remaining input.new) (I.failures input.new)) (O.contents output.old) (O.contents output.new) result }
     ensures unread { ¬ IsAsked (board_of board.now) text.now → input.new ≡ input.old }
     ensures counted { CountsWrites (O.failures output.old) (O.failures output.new) result }
-    ensures told { T.becomes teller.old teller.new }
+    ensures reported { T.becomes progress.old progress.new }
 {
     on_board!(
         board,
-        probe_on::<I, O, T>(alloc, text, input, output, teller)
+        probe_on::<I, O, T>(alloc, text, input, output, progress)
     )
 }
 
-fn probe_on<B: Board, I: Source, O: Sink, T: Teller>(
+fn probe_on<B: Board, I: Source, O: Sink, T: Progress>(
     alloc: Global,
     text: &str,
     input: &mut I,
     output: &mut O,
-    teller: &mut T,
+    progress: &mut T,
 ) -> Result<(), Fault>
     requires streams { MayFail (I.failures input.old) (O.failures output.old) }
     ensures answer { AnswersOnBoard B.shape text.now (input_of (I.remaining input.old) (I.failures input.old))
         (input_of (I.remaining input.new) (I.failures input.new)) (O.contents output.old) (O.contents output.new) result }
     ensures unread { ¬ IsAsked (Some B.shape) text.now → input.new ≡ input.old }
     ensures counted { CountsWrites (O.failures output.old) (O.failures output.new) result }
-    ensures told { T.becomes teller.old teller.new }
+    ensures reported { T.becomes progress.old progress.new }
 {
     let position = Position::<B>::read(text.as_bytes())?;
     let asked = Pair::of(&position);
-    let shelf = load_bundle::<B, I, T>(alloc, asked.as_ref(), input, teller)?;
+    let shelf = load_bundle::<B, I, T>(alloc, asked.as_ref(), input, progress)?;
     show_report(alloc, output, &shelf, &position)
 }
 
@@ -122,17 +122,17 @@ fn show_report<B: Board, O: Sink>(
 
 /// The tables of the files on the input, each verified before the next is read, for a position of
 /// the pair `asked`.
-fn load_bundle<B: Board, I: Source, T: Teller>(
+fn load_bundle<B: Board, I: Source, T: Progress>(
     alloc: Global,
     asked: Option<&Pair<B>>,
     input: &mut I,
-    teller: &mut T,
+    progress: &mut T,
 ) -> Result<Shelf<B>, Fault>
     requires { I.failures input.old < 2 ^ 64 - 1 }
     ensures loaded { LoadsBundle B.shape (input_of (I.remaining input.old) (I.failures input.old))
         (input_of (I.remaining input.new) (I.failures input.new)) result }
     ensures unwritten { IfErr result (λ refused. is_write refused ≡ false) }
-    ensures told { T.becomes teller.old teller.new }
+    ensures reported { T.becomes progress.old progress.new }
 {
     let mut shelf = Shelf::new(alloc)?;
     for place in 0..=MOST_FILES {
@@ -142,32 +142,32 @@ fn load_bundle<B: Board, I: Source, T: Teller>(
         if place == MOST_FILES {
             return Err(Fault::TooMany);
         }
-        join_shelf(&mut shelf, raw, asked, teller)?;
+        join_shelf(&mut shelf, raw, asked, progress)?;
     }
     unreachable!()
 }
 
 /// Puts a table on the shelf once each of its entries is known to be right. What is told first goes
 /// by the pair `asked`, or where the position is of none by that of the first file.
-fn join_shelf<B: Board, T: Teller>(
+fn join_shelf<B: Board, T: Progress>(
     shelf: &mut Shelf<B>,
     raw: Raw<B>,
     asked: Option<&Pair<B>>,
-    teller: &mut T,
+    progress: &mut T,
 ) -> Result<(), Fault>
     ensures joined { OnOk result (Joins B.shape shelf.old shelf.new raw) }
     ensures refused { IfErr result (IsUnfit B.shape shelf.old raw) }
     ensures unwritten { IfErr result (λ refused. is_write refused ≡ false) }
-    ensures told { T.becomes teller.old teller.new }
+    ensures reported { T.becomes progress.old progress.new }
 {
     let pair = match asked {
         Some(pair) => *pair,
         None => raw.pair(),
     };
     // The other files are taken to be in the layout of the first.
-    teller.announce(pair, raw.layout(), Way::Read);
+    progress.start(pair, raw.layout(), Plan::Read);
     let exact = verify_over(shelf, raw)?;
-    teller.end_pair(&exact);
+    progress.end_pair(&exact);
     match shelf.put(exact) {
         Ok(()) => Ok(()),
         Err(_) => unreachable!(),

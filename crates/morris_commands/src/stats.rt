@@ -7,7 +7,7 @@ ghost use Rattle.morris_pairs.specs.Shelves.{first_missing, table_on};
 ghost use Rattle.morris_pairs.specs.Tables.{IsTable};
 ghost use Rattle.morris_jobs.specs.Faults.{CountsWrites};
 ghost use Rattle.morris_jobs.specs.BoardNames.{board_of};
-ghost use Rattle.morris_jobs.specs.Orders.{HasExactAt, IsUnbuiltAt};
+ghost use Rattle.morris_jobs.specs.Building.{HasExactAt, IsUnbuiltAt};
 ghost use Rattle.morris_commands.specs.Build.{IsUnbuiltBefore, RestsOnTooDeep};
 ghost use Rattle.morris_commands.specs.Stats.{AnswersByClasses, AnswersByClassesOn, AnswersCounts, AnswersOn, AnswersStats};
 
@@ -17,21 +17,21 @@ use crate::print_stats::Counted;
 use morris_board::board::{Board, Geometry};
 use morris_board::streams::Sink;
 use morris_index::pair::Pair;
+use morris_jobs::building::{BuildArgs, build_onto};
+use morris_jobs::context::{Context, Parallelism};
 use morris_jobs::counts::{Form, Tallied, print_counts};
 use morris_jobs::fault::Fault;
 use morris_jobs::on_board;
-use morris_jobs::orders::{Order, build_onto};
 use morris_jobs::pairs::read_pair;
 use morris_jobs::print::print;
-use morris_jobs::size::Way;
-use morris_jobs::team::{Crew, Team};
-use morris_jobs::teller::Teller;
+use morris_jobs::progress::Progress;
+use morris_jobs::size::Plan;
 use morris_pairs::counting::Entries;
 use morris_pairs::exact::Exact;
 use morris_pairs::layout::Layout;
 use morris_pairs::shelf::Shelf;
 use morris_pairs::sweeping::sweep_pair_watched;
-use morris_workers::Unwatched;
+use morris_workers::NoProgress;
 use std::alloc::Global;
 use std::sync::Wait;
 use std::thread::Threads;
@@ -48,10 +48,10 @@ pub fn stats<S: Sink>(alloc: Global, board: &str, pair: &str, output: &mut S) ->
     ensures answer { AnswersStats (board_of board.now) pair.now Form.Text (S.contents output.old) (S.contents output.new) result }
     ensures counted { CountsWrites (S.failures output.old) (S.failures output.new) result }
 {
-    stats_with(alloc, board, pair, Form::Text, output, &mut Unwatched)
+    stats_with(alloc, board, pair, Form::Text, output, &mut NoProgress)
 }
 
-/// Prints what [`stats`] prints in this form, and tells `teller` how far it is. With
+/// Prints what [`stats`] prints in this form, and tells `progress` how far it is. With
 /// [`Form::Deepest`] two lines more show positions of the pair with the greatest depths: one that
 /// is won, and one that is lost; of several the one with the least index. With [`Form::Csv`] a line
 /// of fields stands for each number of stones of the player to move and each value that occurs.
@@ -62,38 +62,38 @@ pub fn stats<S: Sink>(alloc: Global, board: &str, pair: &str, output: &mut S) ->
 /// [`Fault::Memory`] where memory is refused, or [`Fault::TooDeep`] where depths in the pair, or in
 /// one that it rests on, go past what a table can hold. Nothing is then written. Else
 /// [`Fault::Write`], with the bytes that went out, at the first write that fails.
-pub fn stats_with<S: Sink, T: Teller>(
+pub fn stats_with<S: Sink, T: Progress>(
     alloc: Global,
     board: &str,
     pair: &str,
     form: Form,
     output: &mut S,
-    teller: &mut T,
+    progress: &mut T,
 ) -> Result<(), Fault>
     requires { S.failures output.old < 2 ^ 64 - 1 }
     ensures answer { AnswersStats (board_of board.now) pair.now form (S.contents output.old) (S.contents output.new) result }
     ensures counted { CountsWrites (S.failures output.old) (S.failures output.new) result }
-    ensures told { T.becomes teller.old teller.new }
+    ensures reported { T.becomes progress.old progress.new }
 {
-    on_board!(board, stats_on::<S, T>(alloc, pair, form, output, teller))
+    on_board!(board, stats_on::<S, T>(alloc, pair, form, output, progress))
 }
 
-fn stats_on<B: Board, S: Sink, T: Teller>(
+fn stats_on<B: Board, S: Sink, T: Progress>(
     alloc: Global,
     text: &str,
     form: Form,
     output: &mut S,
-    teller: &mut T,
+    progress: &mut T,
 ) -> Result<(), Fault>
     requires { S.failures output.old < 2 ^ 64 - 1 }
     ensures answer { AnswersOn B.shape text.now form (S.contents output.old) (S.contents output.new) result }
     ensures counted { CountsWrites (S.failures output.old) (S.failures output.new) result }
-    ensures told { T.becomes teller.old teller.new }
+    ensures reported { T.becomes progress.old progress.new }
 {
     let pair = read_pair::<B>(text)?;
-    teller.announce(pair, Layout::Full, Way::Swept);
-    let mut shelf = sweep_before(alloc, pair, teller)?;
-    sweep_onto(alloc, &mut shelf, pair, teller)?;
+    progress.start(pair, Layout::Full, Plan::Swept);
+    let mut shelf = sweep_before(alloc, pair, progress)?;
+    sweep_onto(alloc, &mut shelf, pair, progress)?;
     let Some(table) = shelf.get(pair) else {
         unreachable!()
     };
@@ -141,10 +141,10 @@ fn print_deepest<B: Geometry, S: Sink>(
 }
 
 /// The tables of all pairs below a pair but its own, among them those that it needs.
-pub(crate) fn sweep_before<B: Board, T: Teller>(
+pub(crate) fn sweep_before<B: Board, T: Progress>(
     alloc: Global,
     pair: Pair<B>,
-    teller: &mut T,
+    progress: &mut T,
 ) -> Result<Shelf<B>, Fault>
     // The caller's proof learns here that the board has as many points as its shape says.
     ensures points { B.shape.points ≡ B.POINTS }
@@ -152,34 +152,34 @@ pub(crate) fn sweep_before<B: Board, T: Teller>(
     ensures last { OnOk result (EndsIn (below_of pair) pair) }
     ensures within { OnOk result (¬ RestsOnTooDeep B.shape pair) }
     ensures refused { IfErr result (IsUnbuiltBefore B.shape pair 0) }
-    ensures told { T.becomes teller.old teller.new }
+    ensures reported { T.becomes progress.old progress.new }
 {
     let mut shelf = Shelf::new(alloc)?;
     for below in pair.below() {
         if below != pair {
-            sweep_onto(alloc, &mut shelf, below, teller)?;
+            sweep_onto(alloc, &mut shelf, below, progress)?;
         }
     }
     Ok(shelf)
 }
 
 /// Puts the table of a pair on a shelf that has those that it needs.
-fn sweep_onto<B: Board, T: Teller>(
+fn sweep_onto<B: Board, T: Progress>(
     alloc: Global,
     shelf: &mut Shelf<B>,
     pair: Pair<B>,
-    teller: &mut T,
+    progress: &mut T,
 ) -> Result<(), Fault>
     requires { first_missing shelf.old pair ≡ None }
     ensures exact { OnOk result (HasExactAt B.shape Layout.Full shelf.new pair) }
     ensures others { OnOk result ((other : Counts) → other ≢ pair → table_on shelf.new other ≡ table_on shelf.old other) }
     ensures within { OnOk result (¬ IsBeyondCodes B.shape pair) }
     ensures refused { IfErr result (IsUnbuiltAt B.shape pair 0) }
-    ensures told { T.becomes teller.old teller.new }
+    ensures reported { T.becomes progress.old progress.new }
 {
-    teller.begin_pair(pair);
-    let table = sweep_pair_watched(alloc, shelf, pair, teller)?;
-    teller.end_pair(&table);
+    progress.begin_pair(pair);
+    let table = sweep_pair_watched(alloc, shelf, pair, progress)?;
+    progress.end_pair(&table);
     match shelf.put(table) {
         Ok(()) => Ok(()),
         Err(_) => unreachable!(),
@@ -188,7 +188,7 @@ fn sweep_onto<B: Board, T: Teller>(
 
 /// Prints what [`stats_with`] prints, counted from tables with an entry for each class of
 /// positions. So many workers build each of these over so many blocks; the text is the same for
-/// every number of them. `teller` is told how far it is.
+/// every number of them. `progress` is told how far it is.
 ///
 /// # Errors
 /// [`Fault::Board`] where there is no such board, else [`Fault::PairText`], [`Fault::Counts`] or
@@ -198,49 +198,53 @@ fn sweep_onto<B: Board, T: Teller>(
 /// [`Fault::Missing`] with the number of a block that was left incomplete, or [`Fault::TooDeep`]
 /// where depths go past what a table can hold. Nothing is then written. Else [`Fault::Write`], with
 /// the bytes that went out, at the first write that fails.
-pub fn stats_by_classes<R: Threads + Wait + Sync, S: Sink, T: Teller>(
+pub fn stats_by_classes<R: Threads + Wait + Sync, S: Sink, T: Progress>(
     rt: &R,
     alloc: Global,
-    order: Order<'_>,
+    build_args: BuildArgs<'_>,
     form: Form,
     output: &mut S,
-    teller: &mut T,
+    progress: &mut T,
 ) -> Result<(), Fault>
     requires { S.failures output.old < 2 ^ 64 - 1 }
-    ensures answer { AnswersByClasses (board_of order.entry.board.now) order.entry.pair.now order.entry.workers order.entry.blocks form
+    ensures answer { AnswersByClasses (board_of build_args.entry.board.now) build_args.entry.pair.now build_args.entry.workers build_args.entry.blocks form
         (S.contents output.old) (S.contents output.new) result }
     ensures counted { CountsWrites (S.failures output.old) (S.failures output.new) result }
-    ensures told { T.becomes teller.old teller.new }
+    ensures reported { T.becomes progress.old progress.new }
 {
     on_board!(
-        order.board,
-        by_classes_on::<R, S, T>(rt, alloc, order, form, output, teller)
+        build_args.board,
+        by_classes_on::<R, S, T>(rt, alloc, build_args, form, output, progress)
     )
 }
 
-fn by_classes_on<B: Board, R: Threads + Wait + Sync, S: Sink, T: Teller>(
+fn by_classes_on<B: Board, R: Threads + Wait + Sync, S: Sink, T: Progress>(
     rt: &R,
     alloc: Global,
-    order: Order<'_>,
+    build_args: BuildArgs<'_>,
     form: Form,
     output: &mut S,
-    teller: &mut T,
+    progress: &mut T,
 ) -> Result<(), Fault>
     requires { S.failures output.old < 2 ^ 64 - 1 }
-    ensures answer { AnswersByClassesOn B.shape order.entry.pair.now order.entry.workers order.entry.blocks form
+    ensures answer { AnswersByClassesOn B.shape build_args.entry.pair.now build_args.entry.workers build_args.entry.blocks form
         (S.contents output.old) (S.contents output.new) result }
     ensures counted { CountsWrites (S.failures output.old) (S.failures output.new) result }
-    ensures told { T.becomes teller.old teller.new }
+    ensures reported { T.becomes progress.old progress.new }
 {
-    let pair = read_pair::<B>(order.pair)?;
-    let team = Team::new(order.workers, order.blocks)?;
-    let crew = Crew { rt, alloc, team };
+    let pair = read_pair::<B>(build_args.pair)?;
+    let parallelism = Parallelism::new(build_args.workers, build_args.blocks)?;
+    let context = Context {
+        rt,
+        alloc,
+        parallelism,
+    };
     // The tables that the pair's rests on are let go once no pair to come needs them.
     let (layout, all) = (Layout::Classes, false);
-    teller.announce(pair, layout, Way::Built { team, all });
-    let mut stock = build_before(crew, layout, all, pair, teller)?;
-    build_onto(crew, &mut stock, layout, pair, teller)?;
-    let Some(table) = stock.get(pair) else {
+    progress.start(pair, layout, Plan::Built { parallelism, all });
+    let mut tables = build_before(context, layout, all, pair, progress)?;
+    build_onto(context, &mut tables, layout, pair, progress)?;
+    let Some(table) = tables.get(pair) else {
         unreachable!()
     };
     print_form(alloc, table, form, output)

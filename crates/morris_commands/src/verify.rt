@@ -10,14 +10,14 @@ ghost use Rattle.morris_jobs.specs.Inputs.{IsUnfit, MayFail, input_of};
 use crate::build::build_before;
 use morris_board::board::Board;
 use morris_board::streams::{Sink, Source};
+use morris_jobs::building::verify_over;
+use morris_jobs::context::Context;
 use morris_jobs::fault::Fault;
 use morris_jobs::on_board;
-use morris_jobs::orders::verify_over;
 use morris_jobs::print::print;
 use morris_jobs::print_verified::Verified;
-use morris_jobs::size::Way;
-use morris_jobs::team::Crew;
-use morris_jobs::teller::Teller;
+use morris_jobs::progress::Progress;
+use morris_jobs::size::Plan;
 use morris_pairs::exact::Exact;
 use morris_pairs::raw::Raw;
 use morris_pairs::reading::read_table;
@@ -31,7 +31,7 @@ use std::thread::Threads;
 /// tells whether each of its codes is that of the game. A team builds the pairs below that of the
 /// file first, in order and in the layout of the file, since the values of a pair rest on theirs,
 /// and then the pair itself. Where that table isn't the same, its workers share the entries of the
-/// file out among them to find the first that is wrong. `teller` is told how far it is.
+/// file out among them to find the first that is wrong. `progress` is told how far it is.
 ///
 /// # Errors
 /// [`Fault::Board`] where there is no such board, before anything is read; else the fault of the
@@ -41,84 +41,87 @@ use std::thread::Threads;
 /// rests, go past what a table can hold; else [`Fault::Differs`] with the index of the first entry
 /// that isn't what the rules give from the entries of its results. Nothing is then written. Else
 /// [`Fault::Write`], with the bytes that went out, at the first write that fails.
-pub fn verify_with<R: Threads + Wait + Sync, I: Source, O: Sink, T: Teller>(
-    crew: Crew<'_, R>,
+pub fn verify_with<R: Threads + Wait + Sync, I: Source, O: Sink, T: Progress>(
+    context: Context<'_, R>,
     board: &str,
     input: &mut I,
     output: &mut O,
-    teller: &mut T,
+    progress: &mut T,
 ) -> Result<(), Fault>
     requires streams { MayFail (I.failures input.old) (O.failures output.old) }
-    ensures answer { AnswersVerify (board_of board.now) crew.entry.team.blocks (input_of (I.remaining input.old) (I.failures input.old)) (input_of (I.remaining input.new) (I.failures input.new))
+    ensures answer { AnswersVerify (board_of board.now) context.entry.parallelism.blocks (input_of (I.remaining input.old) (I.failures input.old)) (input_of (I.remaining input.new) (I.failures input.new))
         (O.contents output.old) (O.contents output.new) result }
     ensures unread { board_of board.now ≡ None → input.new ≡ input.old }
     ensures counted { CountsWrites (O.failures output.old) (O.failures output.new) result }
-    ensures told { T.becomes teller.old teller.new }
+    ensures reported { T.becomes progress.old progress.new }
 {
-    on_board!(board, verify_on::<R, I, O, T>(crew, input, output, teller))
+    on_board!(
+        board,
+        verify_on::<R, I, O, T>(context, input, output, progress)
+    )
 }
 
-fn verify_on<B: Board, R: Threads + Wait + Sync, I: Source, O: Sink, T: Teller>(
-    crew: Crew<'_, R>,
+fn verify_on<B: Board, R: Threads + Wait + Sync, I: Source, O: Sink, T: Progress>(
+    context: Context<'_, R>,
     input: &mut I,
     output: &mut O,
-    teller: &mut T,
+    progress: &mut T,
 ) -> Result<(), Fault>
     requires streams { MayFail (I.failures input.old) (O.failures output.old) }
-    ensures answer { AnswersInput B.shape crew.entry.team.blocks (input_of (I.remaining input.old) (I.failures input.old)) (input_of (I.remaining input.new) (I.failures input.new))
+    ensures answer { AnswersInput B.shape context.entry.parallelism.blocks (input_of (I.remaining input.old) (I.failures input.old)) (input_of (I.remaining input.new) (I.failures input.new))
         (O.contents output.old) (O.contents output.new) result }
     ensures counted { CountsWrites (O.failures output.old) (O.failures output.new) result }
-    ensures told { T.becomes teller.old teller.new }
+    ensures reported { T.becomes progress.old progress.new }
 {
-    let raw = read_table::<B, I>(crew.alloc, input)?;
-    let exact = believe(crew, raw, teller)?;
+    let raw = read_table::<B, I>(context.alloc, input)?;
+    let exact = believe(context, raw, progress)?;
     let (pair, entries) = (exact.pair(), exact.len());
     print(&Verified { pair, entries }, output)
 }
 
 /// The table that was read, once each of its entries is known to be right.
-fn believe<B: Board, R: Threads + Wait + Sync, T: Teller>(
-    crew: Crew<'_, R>,
+fn believe<B: Board, R: Threads + Wait + Sync, T: Progress>(
+    context: Context<'_, R>,
     raw: Raw<B>,
-    teller: &mut T,
+    progress: &mut T,
 ) -> Result<Exact<B>, Fault>
     ensures exact { IfOk result (λ exact. IsTable B.shape raw) }
     ensures value { IfOk result (λ exact. exact ≡ raw) }
     ensures within { OnOk result (¬ RestsOnTooDeep B.shape raw.pair) }
-    ensures refused { IfErr result (IsUnverified B.shape raw crew.entry.team.blocks) }
-    ensures told { T.becomes teller.old teller.new }
+    ensures refused { IfErr result (IsUnverified B.shape raw context.entry.parallelism.blocks) }
+    ensures reported { T.becomes progress.old progress.new }
 {
     let (pair, layout) = (raw.pair(), raw.layout());
-    teller.announce(
+    progress.start(
         pair,
         layout,
-        Way::Verified {
-            team: crew.team,
+        Plan::Verified {
+            parallelism: context.parallelism,
             entries: raw.len(),
         },
     );
-    let stock = build_before(crew, layout, false, pair, teller)?;
-    teller.begin_pair(pair);
-    let exact = judge(crew, &stock, raw, teller)?;
-    teller.end_pair(&exact);
+    let tables = build_before(context, layout, false, pair, progress)?;
+    progress.begin_pair(pair);
+    let exact = judge(context, &tables, raw, progress)?;
+    progress.end_pair(&exact);
     Ok(exact)
 }
 
 /// The table that was read, once each of its entries is known to be right over a set of tables.
-fn judge<B: Board, R: Threads + Wait + Sync, T: Teller>(
-    crew: Crew<'_, R>,
-    stock: &TableSet<B>,
+fn judge<B: Board, R: Threads + Wait + Sync, T: Progress>(
+    context: Context<'_, R>,
+    tables: &TableSet<B>,
     raw: Raw<B>,
-    teller: &mut T,
+    progress: &mut T,
 ) -> Result<Exact<B>, Fault>
     ensures exact { OnOk result (IsTable B.shape raw) }
     ensures value { IfOk result (λ exact. exact ≡ raw) }
-    ensures refused { IfErr result (IsUnfit B.shape stock.now raw) }
-    ensures told { T.becomes teller.old teller.new }
+    ensures refused { IfErr result (IsUnfit B.shape tables.now raw) }
+    ensures reported { T.becomes progress.old progress.new }
 {
-    match build_alike(crew, stock, &raw, teller) {
+    match build_alike(context, tables, &raw, progress) {
         Some(exact) => Ok(exact),
-        None => verify_over(crew, stock, raw, teller),
+        None => verify_over(context, tables, raw, progress),
     }
 }
 
@@ -127,20 +130,24 @@ fn judge<B: Board, R: Threads + Wait + Sync, T: Teller>(
 ///
 /// Where few positions are decided, a table is built in less time than all results of its positions
 /// are looked at.
-fn build_alike<B: Board, R: Threads + Wait + Sync, T: Teller>(
-    crew: Crew<'_, R>,
-    stock: &TableSet<B>,
+fn build_alike<B: Board, R: Threads + Wait + Sync, T: Progress>(
+    context: Context<'_, R>,
+    tables: &TableSet<B>,
     raw: &Raw<B>,
-    teller: &mut T,
+    progress: &mut T,
 ) -> Option<Exact<B>>
     ensures same { IfSome result (λ exact. exact ≡ raw.now) }
-    ensures told { T.becomes teller.old teller.new }
+    ensures reported { T.becomes progress.old progress.new }
 {
-    let Crew { rt, alloc, team } = crew;
+    let Context {
+        rt,
+        alloc,
+        parallelism,
+    } = context;
     let (pair, layout, gate) = (raw.pair(), raw.layout(), &OpenGate);
-    let (workers, blocks) = (team.workers, team.blocks);
+    let (workers, blocks) = (parallelism.workers, parallelism.blocks);
     match build_watched(
-        rt, alloc, stock, pair, layout, gate, teller, workers, blocks,
+        rt, alloc, tables, pair, layout, gate, progress, workers, blocks,
     ) {
         Ok(built) if built.is_same(raw) => Some(built),
         Ok(_) | Err(_) => None,

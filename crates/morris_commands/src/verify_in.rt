@@ -18,7 +18,7 @@ use morris_jobs::print_verified::Verified;
 use morris_pairs::exact::Exact;
 use morris_pairs::raw::Raw;
 use morris_pairs::reading::read_table;
-use morris_workers::Unwatched;
+use morris_workers::NoProgress;
 use std::alloc::Global;
 
 /// Reads the file of one table from `input`, which ends with it, for the board named `board`, and
@@ -68,6 +68,6 @@ fn believe_alone<B: Board>(alloc: Global, raw: Raw<B>) -> Result<Exact<B>, Fault
     ensures within { OnOk result (¬ RestsOnTooDeep B.shape raw.pair) }
     ensures refused { IfErr result (IsUnverified B.shape raw 0) }
 {
-    let shelf = sweep_before(alloc, raw.pair(), &mut Unwatched)?;
+    let shelf = sweep_before(alloc, raw.pair(), &mut NoProgress)?;
     verify_over(&shelf, raw)
 }

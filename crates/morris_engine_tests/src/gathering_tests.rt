@@ -149,7 +149,13 @@ fn first_and(alloc: Global, level: u64, waves: u16) -> Option<Vec<Block<Pairs>>>
 }
 
 // What is wrong with blocks at a wave.
-fn is_told(rt: &impl Abort, alloc: Global, wave: u16, blocks: &[Block<Pairs>], want: GatherFault) {
+fn is_reported(
+    rt: &impl Abort,
+    alloc: Global,
+    wave: u16,
+    blocks: &[Block<Pairs>],
+    want: GatherFault,
+) {
     let cut = Cut::new(2, 2).expect(rt, "a cut");
     let answer = gather(alloc, 7, wave, &cut, blocks);
     holds(rt, matches!(&answer, Err(fault) if *fault == want), "fault");
@@ -158,15 +164,15 @@ fn is_told(rt: &impl Abort, alloc: Global, wave: u16, blocks: &[Block<Pairs>], w
 #[test]
 fn gather_says_which_block_is_missing(rt: HostRuntime) {
     let mut blocks = blocks_after(rt.alloc(), &PAIR, 2, 43).expect(&rt, "blocks");
-    is_told(&rt, rt.alloc(), 42, &blocks, GatherFault::Missing(0));
+    is_reported(&rt, rt.alloc(), 42, &blocks, GatherFault::Missing(0));
     blocks.truncate(1);
-    is_told(&rt, rt.alloc(), 43, &blocks, GatherFault::Missing(1));
+    is_reported(&rt, rt.alloc(), 43, &blocks, GatherFault::Missing(1));
 }
 
 #[test]
 fn gather_says_which_block_is_of_another_build_or_came_twice(rt: HostRuntime) {
     let foreign = first_and(rt.alloc(), 8, 0).expect(&rt, "blocks of another level");
-    is_told(&rt, rt.alloc(), 43, &foreign, GatherFault::Foreign(1));
+    is_reported(&rt, rt.alloc(), 43, &foreign, GatherFault::Foreign(1));
     let twice = first_and(rt.alloc(), 7, 43).expect(&rt, "blocks");
-    is_told(&rt, rt.alloc(), 43, &twice, GatherFault::Double(0));
+    is_reported(&rt, rt.alloc(), 43, &twice, GatherFault::Double(0));
 }

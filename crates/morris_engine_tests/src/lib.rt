@@ -23,6 +23,7 @@ mod lones;
 #[cfg(test)]
 mod meetings;
 mod pairs;
+pub mod printing;
 #[cfg(test)]
 mod rules;
 mod runs;
@@ -35,7 +36,6 @@ mod sweep_tests;
 mod texts_tests;
 #[cfg(test)]
 mod tickets_tests;
-pub mod told;
 #[cfg(test)]
 mod trios;
 #[cfg(test)]

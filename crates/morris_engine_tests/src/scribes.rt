@@ -8,7 +8,7 @@ use std::alloc::Global;
 #[derive(Drop)]
 pub struct Scribe {
     /// The waves that were told.
-    pub told: Vec<u16>,
+    pub waves: Vec<u16>,
     /// How many entries were told to be done.
     pub done: u64,
 }
@@ -17,7 +17,7 @@ impl Scribe {
     /// A watch that was told nothing yet.
     pub fn new(alloc: Global) -> Scribe {
         Scribe {
-            told: Vec::new(alloc),
+            waves: Vec::new(alloc),
             done: 0,
         }
     }
@@ -26,11 +26,11 @@ impl Scribe {
 impl Watch for Scribe {
     ghost use Rattle.std.proofs.Common.{arith};
 
-    ghost becomes = { λ old new. vec_len old.told ≤ vec_len new.told };
+    ghost becomes = { λ old new. vec_len old.waves ≤ vec_len new.waves };
 
     fn wave(&mut self, wave: u16) {
         // A wave for which memory is refused is missing in the list, which a test sees.
-        let _ = self.told.push(wave);
+        let _ = self.waves.push(wave);
     }
 
     fn entries(&mut self, done: u64) {

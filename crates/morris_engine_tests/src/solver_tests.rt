@@ -8,7 +8,7 @@ use crate::meetings::{Meeting, MeetingGraph};
 use crate::pairs::PairGraph;
 use crate::trios::TrioGraph;
 use morris_wave::Graph;
-use morris_workers::{Gate, OpenGate, SolveFault, Unwatched, check_numbers, solve, solve_with};
+use morris_workers::{Gate, NoProgress, OpenGate, SolveFault, check_numbers, solve, solve_with};
 use std::alloc::Global;
 use std::process::Abort;
 use std::sync::Wait;
@@ -76,7 +76,7 @@ fn solves_in_long_lists<G: Graph + Send + Sync, R: Abort + Threads + Wait + Sync
     blocks: usize,
     codes: &[u16],
 ) {
-    let watch = &mut Unwatched;
+    let watch = &mut NoProgress;
     let found = solve_with(rt, alloc, graph, &OpenGate, workers, blocks, 0, watch).expect(
         rt, "codes",
     );

@@ -19,9 +19,9 @@ const PAIR: PairGraph = PairGraph {
 };
 
 // The waves that are told are 1, 2, .. up to this one, each once.
-fn are_waves_to(rt: &impl Abort, told: &[u16], last: u16) {
-    same(rt, told.len() as u64, u64::from(last), "waves");
-    let are_in_order = told
+fn are_waves_to(rt: &impl Abort, waves: &[u16], last: u16) {
+    same(rt, waves.len() as u64, u64::from(last), "waves");
+    let are_in_order = waves
         .iter()
         .enumerate()
         .all(|(place, wave)| *wave as usize == place + 1);
@@ -41,7 +41,7 @@ fn tells<G: Graph + Send + Sync, A: Gate, R: Abort + Threads + Wait + Sync>(
     let mut scribe = Scribe::new(alloc);
     let watch = &mut scribe;
     let answer = solve_with(rt, alloc, graph, gate, workers, blocks, SHORT_NODES, watch);
-    are_waves_to(rt, &scribe.told, last);
+    are_waves_to(rt, &scribe.waves, last);
     answer
 }
 
@@ -87,7 +87,7 @@ fn each_wave_of_a_sweep_is_told_once_in_order(rt: HostRuntime) {
     let mut scribe = Scribe::new(rt.alloc());
     let codes = sweep_watched(rt.alloc(), &PAIR, &mut scribe).expect(&rt, "codes");
     same_codes(&rt, &codes, &[43, 42], "codes");
-    are_waves_to(&rt, &scribe.told, 43);
+    are_waves_to(&rt, &scribe.waves, 43);
 }
 
 #[test]

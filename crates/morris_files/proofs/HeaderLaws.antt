@@ -8,7 +8,7 @@ use Rattle.morris_board.specs.Boards.{Shape}
 use Rattle.morris_index.specs.Pairs.{Counts}
 use Rattle.morris_files.specs.Files.{Files, IsReaderOf}
 use Rattle.morris_files.specs.Headers.{AnswersHeader, header_in}
-use Rattle.morris_files.specs.Kept.{HasFile}
+use Rattle.morris_files.specs.Stored.{HasFile}
 use Rattle.morris_files.specs.declared.header.Header.{Header}
 
 -- a file of which a reader was opened is there

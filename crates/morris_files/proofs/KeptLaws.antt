@@ -11,10 +11,10 @@ use Rattle.morris_pairs.specs.TableFiles.{file_of}
 use Rattle.morris_pairs.specs.declared.file_faults.ReadFault.{ReadFault}
 use Rattle.morris_pairs.specs.declared.file_faults.ReadFault.TheVariants as fault
 use Rattle.morris_files.specs.Files.{Files, HasFailed, IsReaderOf}
-use Rattle.morris_files.specs.Kept.{AreRefused, HasFile, IsUnopened}
+use Rattle.morris_files.specs.Stored.{AreRefused, HasFile, IsUnopened}
 use Rattle.morris_files.specs.Headers.{AnswersHeader}
-use Rattle.morris_files.specs.declared.kept.KeptFault.{KeptFault}
-use Rattle.morris_files.specs.declared.kept.KeptFault.TheVariants as kept
+use Rattle.morris_files.specs.declared.stored.StoredFault.{StoredFault}
+use Rattle.morris_files.specs.declared.stored.StoredFault.TheVariants as stored
 
 left_of : Result (Table × List ℕ) ReadFault → List ℕ
 left_of (Ok found) = found.1
@@ -79,18 +79,18 @@ read_failed failures old new refused counted is =
     (new, omega (arith, once))
 
 -- a file that isn't opened isn't read
-pub unopened_unread : (refused : KeptFault) → IsUnopened refused → refused ≡ kept.Refused fault.Read → ⊥
-unopened_unread kept.Memory unopened e = cc
-unopened_unread kept.Unopened unopened e = cc
-unopened_unread (kept.Refused refused) unopened e = unopened
-unopened_unread kept.OtherPair unopened e = unopened
+pub unopened_unread : (refused : StoredFault) → IsUnopened refused → refused ≡ stored.Refused fault.Read → ⊥
+unopened_unread stored.Memory unopened e = cc
+unopened_unread stored.Unopened unopened e = cc
+unopened_unread (stored.Refused refused) unopened e = unopened
+unopened_unread stored.OtherPair unopened e = unopened
 
-pub unopened_header : (board : Shape) (n : ℕ) (files : Option Files) (name : List ℕ) (c : Counts) (refused : KeptFault) → IsUnopened refused
+pub unopened_header : (board : Shape) (n : ℕ) (files : Option Files) (name : List ℕ) (c : Counts) (refused : StoredFault) → IsUnopened refused
     → AnswersHeader board n files name c (Err refused)
-unopened_header board n files name c kept.Memory unopened = tt
-unopened_header board n files name c kept.Unopened unopened = tt
-unopened_header board n files name c (kept.Refused refused) unopened = absurd unopened
-unopened_header board n files name c kept.OtherPair unopened = unopened
+unopened_header board n files name c stored.Memory unopened = tt
+unopened_header board n files name c stored.Unopened unopened = tt
+unopened_header board n files name c (stored.Refused refused) unopened = absurd unopened
+unopened_header board n files name c stored.OtherPair unopened = unopened
 
 -- what a comparison of two pairs says
 pub apart : (a b : Counts) → not (nat_eq a.greater b.greater && nat_eq a.lesser b.lesser) ≡ true → a ≢ b

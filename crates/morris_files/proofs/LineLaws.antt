@@ -9,7 +9,7 @@ use Rattle.std.proofs.lemmas.List.Folds.{list_any_at, list_any_more}
 use Rattle.std.proofs.lemmas.Option.{slice_get_within, get_or_from_slice_get}
 use Rattle.morris_index.specs.Pairs.{Counts, all_pairs, is_below}
 use Rattle.morris_files.specs.Names.{name_of}
-use Rattle.morris_files.specs.Digests.{is_digit, is_kept, is_kept_of, is_line_of}
+use Rattle.morris_files.specs.Digests.{is_digit, is_retained, is_retained_of, is_line_of}
 
 module _ (board line : List ℕ) where
   module _ (c : Counts) where
@@ -37,11 +37,11 @@ module _ (board line : List ℕ) where
   module _ (replaced : Counts) where
     module _ (c : Counts) where
       -- the line of a file that is replaced isn't kept, and that of another one is
-      pub is_kept_of-replaced : is_below replaced c ≡ true → is_kept_of board replaced line c ≡ false
-      is_kept_of-replaced below = ap (λ b. not b && is_line_of board line c) below
+      pub is_retained_of-replaced : is_below replaced c ≡ true → is_retained_of board replaced line c ≡ false
+      is_retained_of-replaced below = ap (λ b. not b && is_line_of board line c) below
 
-      pub is_kept_of-other : is_below replaced c ≡ false → (same : Bool) → is_line_of board line c ≡ same → is_kept_of board replaced line c ≡ same
-      is_kept_of-other apart same e = ap (λ b. not b && is_line_of board line c) apart ∙ e
+      pub is_retained_of-other : is_below replaced c ≡ false → (same : Bool) → is_line_of board line c ≡ same → is_retained_of board replaced line c ≡ same
+      is_retained_of-other apart same e = ap (λ b. not b && is_line_of board line c) apart ∙ e
 
     module _ (place : ℕ) (c : Counts) (is : slice_get all_pairs place ≡ Some c) where
       within : place < length all_pairs
@@ -51,19 +51,19 @@ module _ (board line : List ℕ) where
       here = get_or_from_slice_get all_pairs place c c is
 
       -- one pair more
-      pub any-more : list_any (is_kept_of board replaced line) (take place all_pairs) ≡ false → is_kept_of board replaced line c ≡ false → list_any (is_kept_of board replaced line) (take (place + 1) all_pairs) ≡ false
-      any-more before now = list_any_more (is_kept_of board replaced line) all_pairs place c within ∙ ap (λ b. b || is_kept_of board replaced line (get_or all_pairs place c)) before ∙ ap (is_kept_of board replaced line) here ∙ now
+      pub any-more : list_any (is_retained_of board replaced line) (take place all_pairs) ≡ false → is_retained_of board replaced line c ≡ false → list_any (is_retained_of board replaced line) (take (place + 1) all_pairs) ≡ false
+      any-more before now = list_any_more (is_retained_of board replaced line) all_pairs place c within ∙ ap (λ b. b || is_retained_of board replaced line (get_or all_pairs place c)) before ∙ ap (is_retained_of board replaced line) here ∙ now
 
       -- one pair settles it
-      pub is_kept-here : is_kept_of board replaced line c ≡ true → true ≡ is_kept board replaced line
-      unfolding is_kept
-      is_kept-here now = sym (list_any_at (is_kept_of board replaced line) all_pairs place c within (ap (is_kept_of board replaced line) here ∙ now))
+      pub is_retained-here : is_retained_of board replaced line c ≡ true → true ≡ is_retained board replaced line
+      unfolding is_retained
+      is_retained-here now = sym (list_any_at (is_retained_of board replaced line) all_pairs place c within (ap (is_retained_of board replaced line) here ∙ now))
 
     length-all_pairs : length all_pairs ≡ 28
     unfolding all_pairs
     length-all_pairs = refl
 
     -- no pair does
-    pub is_kept-none : (place : ℕ) → 28 ≤ place → list_any (is_kept_of board replaced line) (take place all_pairs) ≡ false → false ≡ is_kept board replaced line
-    unfolding is_kept
-    is_kept-none place all none = sym (ap (list_any (is_kept_of board replaced line)) (sym (take_all place all_pairs (omega (arith, length-all_pairs)))) ∙ none)
+    pub is_retained-none : (place : ℕ) → 28 ≤ place → list_any (is_retained_of board replaced line) (take place all_pairs) ≡ false → false ≡ is_retained board replaced line
+    unfolding is_retained
+    is_retained-none place all none = sym (ap (list_any (is_retained_of board replaced line)) (sym (take_all place all_pairs (omega (arith, length-all_pairs)))) ∙ none)

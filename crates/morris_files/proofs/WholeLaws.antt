@@ -2,7 +2,7 @@
 use Rattle.std.proofs.Common.{◌≡◌, ◌≢◌, ℕ, ◌+◌, ◌<◌, Bool, List, Option, Some, None, true, false, refl, sym, ap, subst, ◌∙◌, arith, length, length-append, inl, inr, ◌⊎◌}
 use Rattle.std.specs.Prelude.{codes, if◌then◌else◌}
 use Rattle.morris_files.specs.Files.{Files, Goes, AreSame, AreUnrenamed, HasFailed}
-use Rattle.morris_files.specs.Whole.{part_of, ArePart, AreNotPart, AreGivenUp, AreNotWhole, IsOfPart, IsAsItWas, MayBeGone, failed_at, failed_in, may_leave}
+use Rattle.morris_files.specs.Whole.{part_of, ArePart, AreNotPart, AreGivenUp, AreNotWhole, IsOfPart, IsAsItWas, MayBeGone, failures_at, failures_in, may_leave}
 use Rattle.morris_files.specs.declared.whole.Step.{Step}
 use Rattle.morris_files.specs.declared.whole.Step.TheVariants.{Memory, Create, Write, Sync, Rename, Settle}
 use Rattle.morris_files.specs.declared.whole.NotWhole.{NotWhole}
@@ -49,7 +49,7 @@ unwritten part name bytes step fault this same of x y z p q =
     let off : (other : List ℕ) → other ≢ part_of name → z other ≡ x other =
     λ other ne. let apart : other ≢ part = λ e. ne (e ∙ this) in q.others other apart ∙ p.others other apart in
     record {
-      kept = as-it-was fault.step name bytes x z (subst IsOfPart (sym same) of) (off name (part-apart name));
+      as_it_was = as-it-was fault.step name bytes x z (subst IsOfPart (sym same) of) (off name (part-apart name));
       no_part = λ may left. ap z (sym this) ∙ q.gone may left;
       unchanged = λ first. absurd (subst IsOfPart (sym same ∙ first) of);
       unmade = λ created. subst (λ under. MayBeGone under x z) this (gone-still part x y z (p.unmade (sym same ∙ created)) (q.unchanged (ap may_leave created)));
@@ -66,7 +66,7 @@ unrenamed part name bytes fault this same w x y z p r q =
     let either : (z name ≡ w name) ⊎ (z name ≡ Some bytes) =
     elim r.either [ inl e ↦ inl (here ∙ (e ∙ p.others name apart)) | inr e ↦ inr (here ∙ (e ∙ p.whole)) ] in
     record {
-      kept = subst (λ step. IsAsItWas step name bytes w z) (sym same) either;
+      as_it_was = subst (λ step. IsAsItWas step name bytes w z) (sym same) either;
       no_part = λ may left. ap z (sym this) ∙ q.gone may left;
       unchanged = λ first. absurd (let e : false ≡ true = sym (ap is_memory same) ∙ ap is_memory first in cc);
       unmade = λ created. absurd (let e : false ≡ true = sym (ap is_create same) ∙ ap is_create created in cc);
@@ -84,20 +84,20 @@ goes-trans_three join (Some w) (Some x) (Some y) None p q r = absurd r
 goes-trans_three join (Some w) (Some x) (Some y) (Some z) p q r = join w x y z p q r
 
 -- a refusal that isn't one of memory has a cause: a call of the folder failed, or a write
-pub whole_failed : {W : Type 0} (writing : W → ℕ) (old new : ℕ) (fault : NotWhole) → (fault.step ≡ Memory → ⊥) → new ≡ old + failed_in fault
+pub whole_failed : {W : Type 0} (writing : W → ℕ) (old new : ℕ) (fault : NotWhole) → (fault.step ≡ Memory → ⊥) → new ≡ old + failures_in fault
     → (fault.step ≡ Write → HasFailed writing) → (old < new) ⊎ HasFailed writing
 whole_failed writing old new fault other counted unwritten = by_step fault.step refl
   where
-    sum : new ≡ old + (failed_at fault.step + (if fault.left then 1 else 0))
+    sum : new ≡ old + (failures_at fault.step + (if fault.left then 1 else 0))
     sum = counted
 
-    risen : failed_at fault.step ≡ 1 → old < new
+    risen : failures_at fault.step ≡ 1 → old < new
     risen one = omega (arith, sum, one)
 
     by_step : (step : Step) → fault.step ≡ step → (old < new) ⊎ HasFailed writing
     by_step Memory is = absurd (other is)
-    by_step Create is = inl (risen (ap failed_at is))
+    by_step Create is = inl (risen (ap failures_at is))
     by_step Write is = inr (unwritten is)
-    by_step Sync is = inl (risen (ap failed_at is))
-    by_step Rename is = inl (risen (ap failed_at is))
-    by_step Settle is = inl (risen (ap failed_at is))
+    by_step Sync is = inl (risen (ap failures_at is))
+    by_step Rename is = inl (risen (ap failures_at is))
+    by_step Settle is = inl (risen (ap failures_at is))

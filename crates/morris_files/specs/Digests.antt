@@ -31,21 +31,21 @@ is_line_of board line c = list_all is_digit (take 64 line) && bytes_eq (drop 64 
 
 -- whether a line is that of a pair's file, which isn't replaced where the files of all pairs below
 -- a pair are
-abbrev pub is_kept_of : List ℕ → Counts → List ℕ → Counts → Bool
-is_kept_of board replaced line c = not (is_below replaced c) && is_line_of board line c
+abbrev pub is_retained_of : List ℕ → Counts → List ℕ → Counts → Bool
+is_retained_of board replaced line c = not (is_below replaced c) && is_line_of board line c
 
 -- whether a line is kept: it is that of such a file, of any of all pairs
-unfoldable pub is_kept : List ℕ → Counts → List ℕ → Bool
-is_kept board replaced line = list_any (is_kept_of board replaced line) all_pairs
+unfoldable pub is_retained : List ℕ → Counts → List ℕ → Bool
+is_retained board replaced line = list_any (is_retained_of board replaced line) all_pairs
 
 -- a line with its line feed (10) where it is kept, and nothing where it isn't
-abbrev pub kept_line : List ℕ → Counts → List ℕ → List ℕ
-kept_line board replaced line = if is_kept board replaced line then line ++ 10 ∷ [] else []
+abbrev pub retained_line : List ℕ → Counts → List ℕ → List ℕ
+retained_line board replaced line = if is_retained board replaced line then line ++ 10 ∷ [] else []
 
 -- the lines of a list, which is cut at its line feeds
 abbrev pub lines_of : List ℕ → List (List ℕ)
 lines_of list = slice_split (λ byte. byte == 10) list
 
 -- the lines of a list that are kept, in order
-unfoldable pub kept_of : List ℕ → Counts → List ℕ → List ℕ
-kept_of board replaced list = flat_map (kept_line board replaced) (lines_of list)
+unfoldable pub retained_of : List ℕ → Counts → List ℕ → List ℕ
+retained_of board replaced list = flat_map (retained_line board replaced) (lines_of list)

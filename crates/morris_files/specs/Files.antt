@@ -24,8 +24,8 @@ abbrev pub AreSameButTwo : List ℕ → List ℕ → Files → Files → Type 0
 AreSameButTwo one two old new = (other : List ℕ) → other ≢ one → other ≢ two → new other ≡ old other
 
 -- nothing changed
-abbrev pub Keeps : Option Files → Option Files → Type 0
-Keeps old new = Goes old new AreSame
+abbrev pub AreUnchanged : Option Files → Option Files → Type 0
+AreUnchanged old new = Goes old new AreSame
 
 -- What stands under the name when the call ends is open, and each other file is as it was.
 abbrev pub IsUnsynced : Option Files → Option Files → List ℕ → Type 0
@@ -52,7 +52,7 @@ IsOpened remaining failures files name r = MatchResult r
 abbrev pub IsCreated : {W E : Type 0} → (W → Option (List ℕ)) → (W → ℕ) → Option Files → Option Files → List ℕ → Result W E → Type 0
 IsCreated contents failures old new name r = MatchResult r
     (λ writer. Goes old new (λ before after. (before name ≡ None) × AreSameBut name before after × (contents writer ≡ Some [])) × (failures writer ≡ 0))
-    (λ _. Keeps old new)
+    (λ _. AreUnchanged old new)
 
 -- There is a reader, or a writer, of which a call has failed. A folder makes each with none that
 -- has, so whoever knows a folder by its contract alone has such a one only once a call of it

@@ -5,6 +5,6 @@ pub mod Whole
 pub mod Names
 pub mod Digests
 pub mod Lists
-pub mod Kept
+pub mod Stored
 pub mod Headers
 pub mod Parts

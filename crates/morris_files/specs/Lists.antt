@@ -2,10 +2,10 @@
 use Rattle.std.specs.Prelude.{◌≡◌, ⊤, ℕ, ◌<◌, ◌≤◌, List, [], length, Option, Some, None, unwrap_or, Result, Err}
 use Rattle.morris_index.specs.Pairs.{Counts}
 use Rattle.morris_files.specs.Files.{Files}
-use Rattle.morris_files.specs.Digests.{kept_of}
+use Rattle.morris_files.specs.Digests.{retained_of}
 use Rattle.morris_files.specs.Names.{digests_name_of}
-use Rattle.morris_files.specs.declared.old_list.ListFault.{ListFault}
-use Rattle.morris_files.specs.declared.old_list.ListFault.TheVariants as fault
+use Rattle.morris_files.specs.declared.old_checksums.ListFault.{ListFault}
+use Rattle.morris_files.specs.declared.old_checksums.ListFault.TheVariants as fault
 
 -- ---- the list that a folder has
 
@@ -20,9 +20,9 @@ IsList board (Some files) list = (list ≡ list_in files board) × (length list 
 
 -- What is had of a folder's list, no longer than that, where the files are known: the lines that
 -- are kept.
-abbrev pub AreKeptLines : List ℕ → Counts → Option Files → List ℕ → Type 0
-AreKeptLines board replaced None kept = ⊤
-AreKeptLines board replaced (Some files) kept = (kept ≡ kept_of board replaced (list_in files board)) × (length (list_in files board) ≤ 65536)
+abbrev pub AreRetainedLines : List ℕ → Counts → Option Files → List ℕ → Type 0
+AreRetainedLines board replaced None retained = ⊤
+AreRetainedLines board replaced (Some files) retained = (retained ≡ retained_of board replaced (list_in files board)) × (length (list_in files board) ≤ 65536)
 
 -- why a folder's list isn't had: it may be longer than that, where the files are known
 abbrev pub IsUnlisted : List ℕ → Option Files → ListFault → Type 0
@@ -31,9 +31,9 @@ IsUnlisted board (Some files) fault.Long = 65536 < length (list_in files board)
 IsUnlisted board (Some files) _ = ⊤
 
 -- one call of the folder failed where the list can't be opened, and none elsewhere
-abbrev pub failed_listing : {T : Type 0} → Result T ListFault → ℕ
-failed_listing (Err fault.Unopened) = 1
-failed_listing _ = 0
+abbrev pub failures_listing : {T : Type 0} → Result T ListFault → ℕ
+failures_listing (Err fault.Unopened) = 1
+failures_listing _ = 0
 
 -- ---- the bytes of a reader
 

@@ -40,7 +40,7 @@ MayBeGone part old new = (new part ≡ old part) ⊎ (new part ≡ None)
 -- can't be made, what stood under its name may be gone, and nothing else is changed; and where only
 -- the names may not last, all is as it is once the file was written.
 pub record AreNotWhole (name bytes : List ℕ) (fault : NotWhole) (old new : Files) : Type 0 where
-  pub kept : IsAsItWas fault.step name bytes old new
+  pub as_it_was : IsAsItWas fault.step name bytes old new
   pub no_part : may_leave fault.step ≡ true → fault.left ≡ false → new (part_of name) ≡ None
   pub unchanged : fault.step ≡ Memory → AreSame old new
   pub unmade : fault.step ≡ Create → MayBeGone (part_of name) old new
@@ -49,16 +49,16 @@ pub record AreNotWhole (name bytes : List ℕ) (fault : NotWhole) (old new : Fil
 
 -- how many calls of the folder failed by a refusal: one at each step that is a call of it, and one
 -- where a part was left
-abbrev pub failed_at : Step → ℕ
-failed_at Memory = 0
-failed_at Create = 1
-failed_at Write = 0
-failed_at Sync = 1
-failed_at Rename = 1
-failed_at Settle = 1
+abbrev pub failures_at : Step → ℕ
+failures_at Memory = 0
+failures_at Create = 1
+failures_at Write = 0
+failures_at Sync = 1
+failures_at Rename = 1
+failures_at Settle = 1
 
-abbrev pub failed_in : NotWhole → ℕ
-failed_in fault = failed_at fault.step + (if fault.left then 1 else 0)
+abbrev pub failures_in : NotWhole → ℕ
+failures_in fault = failures_at fault.step + (if fault.left then 1 else 0)
 
 -- what the writing of a whole file answers
 abbrev pub AnswersWhole : {T : Type 0} → List ℕ → List ℕ → Option Files → Option Files → Result T NotWhole → Type 0

@@ -1,7 +1,7 @@
 //! What a folder of files does, with a count of the calls that failed.
 ghost use Rattle.std.specs.Prelude.{◌≡◌, ℕ, ◌-◌, ◌^◌, ◌<◌, Bool, List, Option, MatchResult};
 ghost use Rattle.morris_board.specs.Streams.{CountsFailure};
-ghost use Rattle.morris_files.specs.Files.{Files, BecomesFile, FitsTaken, IsCreated, IsLocked, IsOpened, IsRemoved, IsRenamed, IsUnremoved, IsUnrenamed, IsUnsynced, Keeps};
+ghost use Rattle.morris_files.specs.Files.{Files, BecomesFile, FitsTaken, IsCreated, IsLocked, IsOpened, IsRemoved, IsRenamed, IsUnremoved, IsUnrenamed, IsUnsynced, AreUnchanged};
 
 use morris_board::streams::{Failed, Sink, Source};
 
@@ -39,7 +39,7 @@ pub trait Folder {
     /// [`lock`](Folder::lock) changes who holds the lock.
     fn make(&mut self) -> Result<(), Failed>
         requires { failures self.old < 2 ^ 64 - 1 }
-        ensures kept { Keeps (files self.old) (files self.new) }
+        ensures unchanged { AreUnchanged (files self.old) (files self.new) }
         ensures counted { CountsFailure (failures self.old) (failures self.new) result }
         ensures held { locked self.new ≡ locked self.old }
         ensures by_others { taken self.new ≡ taken self.old };
@@ -48,7 +48,7 @@ pub trait Folder {
     /// else, or is empty. No file is changed.
     fn find(&mut self) -> Result<(), Failed>
         requires { failures self.old < 2 ^ 64 - 1 }
-        ensures kept { Keeps (files self.old) (files self.new) }
+        ensures unchanged { AreUnchanged (files self.old) (files self.new) }
         ensures counted { CountsFailure (failures self.old) (failures self.new) result }
         ensures held { locked self.new ≡ locked self.old }
         ensures by_others { taken self.new ≡ taken self.old };
@@ -72,7 +72,7 @@ pub trait Folder {
     fn open(&mut self, name: &str) -> Result<Option<Self::Reader>, Failed>
         requires { failures self.old < 2 ^ 64 - 1 }
         ensures opened { IsOpened Self.Reader.remaining Self.Reader.failures (files self.old) name.now result }
-        ensures kept { Keeps (files self.old) (files self.new) }
+        ensures unchanged { AreUnchanged (files self.old) (files self.new) }
         ensures counted { CountsFailure (failures self.old) (failures self.new) result }
         ensures held { locked self.new ≡ locked self.old }
         ensures by_others { taken self.new ≡ taken self.old };
@@ -98,7 +98,7 @@ pub trait Folder {
     /// Ends the writing of a file by `writer`, a write of which failed. The file stays, and nothing
     /// is said of its bytes; why the write failed is noted, where the folder notes such.
     fn abandon(&mut self, writer: Self::Writer)
-        ensures kept { Keeps (files self.old) (files self.new) }
+        ensures unchanged { AreUnchanged (files self.old) (files self.new) }
         ensures failures { failures self.new ≡ failures self.old }
         ensures held { locked self.new ≡ locked self.old }
         ensures by_others { taken self.new ≡ taken self.old };
@@ -127,7 +127,7 @@ pub trait Folder {
     /// changed, whether the call fails or not.
     fn settle(&mut self) -> Result<(), Failed>
         requires { failures self.old < 2 ^ 64 - 1 }
-        ensures kept { Keeps (files self.old) (files self.new) }
+        ensures unchanged { AreUnchanged (files self.old) (files self.new) }
         ensures counted { CountsFailure (failures self.old) (failures self.new) result }
         ensures held { locked self.new ≡ locked self.old }
         ensures by_others { taken self.new ≡ taken self.old };

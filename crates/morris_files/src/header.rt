@@ -1,13 +1,13 @@
 //! The header of the file of a pair's table, and what it says of a file that a folder has.
 ghost use Rattle.std.specs.Prelude.{◌≡◌, ℕ, ◌+◌, ◌-◌, ◌<◌, ◌^◌, Err};
-ghost use Rattle.morris_files.specs.Files.{HasFailed, Keeps};
+ghost use Rattle.morris_files.specs.Files.{HasFailed, AreUnchanged};
 ghost use Rattle.morris_pairs.specs.TableFiles.{header_of};
 ghost use Rattle.morris_files.specs.Headers.{AnswersHeader, header_in};
-ghost use Rattle.morris_files.specs.Kept.{failed_opening};
+ghost use Rattle.morris_files.specs.Stored.{failures_opening};
 ghost use Rattle.morris_files.specs.Names.{name_of};
 
 use crate::folder::Folder;
-use crate::kept::{KeptFault, open_table_file};
+use crate::stored::{StoredFault, open_table_file};
 use morris_board::board::Geometry;
 use morris_board::streams::Failed;
 use morris_index::class_sizes::class_size;
@@ -34,19 +34,19 @@ pub struct Header {
 /// Fewer than `u64::MAX` calls of the folder may have failed before.
 ///
 /// # Errors
-/// [`KeptFault::Memory`] where memory is refused for the name, else [`KeptFault::Unopened`] where
-/// the file can't be opened, else [`KeptFault::Refused`] with `Read` where a read of it failed.
+/// [`StoredFault::Memory`] where memory is refused for the name, else [`StoredFault::Unopened`] where
+/// the file can't be opened, else [`StoredFault::Refused`] with `Read` where a read of it failed.
 pub fn read_header<B: Geometry, F: Folder>(
     alloc: Global,
     folder: &mut F,
     board: &str,
     pair: Pair<B>,
-) -> Result<Option<Header>, KeptFault>
+) -> Result<Option<Header>, StoredFault>
     requires { F.failures folder.old < 2 ^ 64 - 1 }
     ensures answer { AnswersHeader B.shape B.POINTS (F.files folder.old) (name_of board.now pair) pair result }
-    ensures unread { result ≡ Err (KeptFault.Refused ReadFault.Read) → HasFailed F.Reader.failures }
-    ensures kept { Keeps (F.files folder.old) (F.files folder.new) }
-    ensures counted { F.failures folder.new ≡ F.failures folder.old + failed_opening result }
+    ensures unread { result ≡ Err (StoredFault.Refused ReadFault.Read) → HasFailed F.Reader.failures }
+    ensures unchanged { AreUnchanged (F.files folder.old) (F.files folder.new) }
+    ensures counted { F.failures folder.new ≡ F.failures folder.old + failures_opening result }
 {
     let Some(mut reader) = open_table_file(alloc, folder, board, pair)? else {
         return Ok(None);
@@ -54,7 +54,7 @@ pub fn read_header<B: Geometry, F: Folder>(
     let mut bytes = [0; HEADER];
     match fill(&mut reader, &mut bytes) {
         Ok(count) => Ok(header_in(&bytes[..count], pair)),
-        Err(Failed) => Err(KeptFault::Refused(ReadFault::Read)),
+        Err(Failed) => Err(StoredFault::Refused(ReadFault::Read)),
     }
 }
 

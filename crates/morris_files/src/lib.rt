@@ -2,16 +2,16 @@
 //! name of its own.
 #![tactic(auto)]
 
-mod digest;
-pub mod digests;
+mod checksum_line;
+pub mod checksum_list;
+mod digested_table;
+pub mod error_noting;
 pub mod folder;
 pub mod header;
-pub mod kept;
-mod list_line;
 pub mod names;
-pub mod noting;
-pub mod old_list;
+pub mod old_checksums;
 pub mod reason;
+pub mod stored;
 pub mod system;
 pub mod table_file;
 pub mod whole;

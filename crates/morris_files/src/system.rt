@@ -1,8 +1,8 @@
 //! A folder of the system.
 ghost use Rattle.std.specs.Prelude.{◌≡◌, false, None};
 
+use crate::error_noting::Noting;
 use crate::folder::Folder;
-use crate::noting::Noting;
 use crate::reason::Reason;
 use crate::system::calls::{
     create_file, find_folder, lock_file, make_folder, move_file, open_file, remove_file,

@@ -5,11 +5,11 @@ ghost use Rattle.sha2.specs.Sha256.{sha256};
 ghost use Rattle.morris_pairs.specs.TableFiles.{file_of};
 ghost use Rattle.morris_files.specs.Files.{Files, HasFailed};
 ghost use Rattle.morris_files.specs.Names.{name_of};
-ghost use Rattle.morris_files.specs.Whole.{IsBegun, failed_in};
-ghost use Rattle.morris_files.specs.Kept.{AnswersTableFile};
+ghost use Rattle.morris_files.specs.Whole.{IsBegun, failures_in};
+ghost use Rattle.morris_files.specs.Stored.{AnswersTableFile};
 ghost use Rattle.morris_files.specs.Parts.{HasNames, IsPaired};
 
-use crate::digest::write_digested;
+use crate::digested_table::write_digested;
 use crate::folder::Folder;
 use crate::names::file_name;
 use crate::whole::{Contents, NotWhole, Part, Step, begin_part, end_part};
@@ -61,7 +61,7 @@ pub fn write_table_file<B: Geometry, F: Folder, W: Watch>(
 ) -> Result<Written<B>, NotWhole>
     requires { F.failures folder.old < 2 ^ 64 - 2 }
     ensures answer { AnswersTableFile B.shape board.now table.now (F.files folder.old) (F.files folder.new) result }
-    ensures counted { MatchResult result (λ _. F.failures folder.new ≡ F.failures folder.old) (λ fault. F.failures folder.new ≡ F.failures folder.old + failed_in fault) }
+    ensures counted { MatchResult result (λ _. F.failures folder.new ≡ F.failures folder.old) (λ fault. F.failures folder.new ≡ F.failures folder.old + failures_in fault) }
     ensures unwritten { IfErr result (λ fault. fault.step ≡ Step.Write → HasFailed F.Writer.failures) }
     ensures held { F.locked folder.new ≡ F.locked folder.old }
     ensures pair { IfOk result (λ written. written.pair ≡ table.now.pair) }
@@ -105,7 +105,7 @@ pub fn begin_table_file<B: Geometry, F: Folder>(
     ensures paired { IfOk result (λ begun. IsPaired begun) }
     ensures refused { IfErr result (λ fault. AnswersTableFile {T = ⊤} B.shape board.now table.now (F.files folder.old) (F.files folder.new) (Err fault)) }
     ensures written { IfErr result (λ fault. fault.step ≢ Step.Write) }
-    ensures counted { MatchResult result (λ _. F.failures folder.new ≡ F.failures folder.old) (λ fault. F.failures folder.new ≡ F.failures folder.old + failed_in fault) }
+    ensures counted { MatchResult result (λ _. F.failures folder.new ≡ F.failures folder.old) (λ fault. F.failures folder.new ≡ F.failures folder.old + failures_in fault) }
     ensures held { F.locked folder.new ≡ F.locked folder.old }
 {
     let Ok(name) = file_name(alloc, board, table.pair()) else {
@@ -139,7 +139,7 @@ pub fn end_table_file<B: Geometry, F: Folder>(
         → IsBegun F.Writer.contents files (F.files folder.old) (name_of board table.now.pair) start
         → OnOk written (Appends (F.Writer.contents start) (F.Writer.contents part.part.writer) (file_of B.shape table.now))
         → AnswersTableFile B.shape board table.now files (F.files folder.new) result }
-    ensures counted { MatchResult result (λ _. F.failures folder.new ≡ F.failures folder.old) (λ fault. F.failures folder.new ≡ F.failures folder.old + failed_in fault) }
+    ensures counted { MatchResult result (λ _. F.failures folder.new ≡ F.failures folder.old) (λ fault. F.failures folder.new ≡ F.failures folder.old + failures_in fault) }
     ensures unwritten { IfErr result (λ fault. fault.step ≡ Step.Write → HasFailed F.Writer.failures) }
     ensures held { F.locked folder.new ≡ F.locked folder.old }
     ensures pair { IfOk result (λ written. written.pair ≡ table.now.pair) }

@@ -4,7 +4,7 @@ ghost use Rattle.std.specs.Io.KnownBytes.{Appends};
 ghost use Rattle.sha2.specs.Sha256.{sha256};
 ghost use Rattle.morris_board.specs.Streams.{CountsFailure};
 ghost use Rattle.morris_files.specs.Files.{Files, Goes, HasFailed};
-ghost use Rattle.morris_files.specs.Whole.{AnswersPart, AnswersWhole, AreGivenUp, AreNotWhole, ArePart, IsBegun, IsBegunPart, IsMade, part_of, may_leave, failed_at, failed_in};
+ghost use Rattle.morris_files.specs.Whole.{AnswersPart, AnswersWhole, AreGivenUp, AreNotWhole, ArePart, IsBegun, IsBegunPart, IsMade, part_of, may_leave, failures_at, failures_in};
 
 use crate::folder::Folder;
 use morris_board::streams::{Failed, Sink};
@@ -109,7 +109,7 @@ pub fn write_whole<F: Folder, C: Contents, W: Watch>(
 ) -> Result<[u8; 32], NotWhole>
     requires { F.failures folder.old < 2 ^ 64 - 2 }
     ensures answer { AnswersWhole name.now (C.bytes contents.now) (F.files folder.old) (F.files folder.new) result }
-    ensures counted { MatchResult result (λ _. F.failures folder.new ≡ F.failures folder.old) (λ fault. F.failures folder.new ≡ F.failures folder.old + failed_in fault) }
+    ensures counted { MatchResult result (λ _. F.failures folder.new ≡ F.failures folder.old) (λ fault. F.failures folder.new ≡ F.failures folder.old + failures_in fault) }
     ensures unwritten { IfErr result (λ fault. fault.step ≡ Step.Write → HasFailed F.Writer.failures) }
     ensures held { F.locked folder.new ≡ F.locked folder.old }
     ensures digest { IfOk result (λ digest. digest ≡ sha256 (C.bytes contents.now)) }
@@ -140,7 +140,7 @@ pub fn begin_part<F: Folder>(
     ensures name { IfOk result (λ part. string_bytes part.name ≡ part_of name.now) }
     ensures refused { (bytes : List ℕ) → IfErr result (λ fault. Goes (F.files folder.old) (F.files folder.new) (AreNotWhole name.now bytes fault)) }
     ensures written { IfErr result (λ fault. fault.step ≢ Step.Write) }
-    ensures counted { MatchResult result (λ _. F.failures folder.new ≡ F.failures folder.old) (λ fault. F.failures folder.new ≡ F.failures folder.old + failed_in fault) }
+    ensures counted { MatchResult result (λ _. F.failures folder.new ≡ F.failures folder.old) (λ fault. F.failures folder.new ≡ F.failures folder.old + failures_in fault) }
     ensures held { F.locked folder.new ≡ F.locked folder.old }
 {
     let Ok(part) = [name, ".part"].concat(alloc) else {
@@ -178,7 +178,7 @@ pub fn end_part<F: Folder>(
     requires unwritten { IfErr written (λ _. 0 < F.Writer.failures part.writer) }
     ensures answer { (files : Option Files) (start : F.Writer) (bytes : List ℕ) → IsBegun F.Writer.contents files (F.files folder.old) name.now start
         → OnOk written (Appends (F.Writer.contents start) (F.Writer.contents part.writer) bytes) → AnswersWhole name.now bytes files (F.files folder.new) result }
-    ensures counted { MatchResult result (λ _. F.failures folder.new ≡ F.failures folder.old) (λ fault. F.failures folder.new ≡ F.failures folder.old + failed_in fault) }
+    ensures counted { MatchResult result (λ _. F.failures folder.new ≡ F.failures folder.old) (λ fault. F.failures folder.new ≡ F.failures folder.old + failures_in fault) }
     ensures unwritten { IfErr result (λ fault. fault.step ≡ Step.Write → HasFailed F.Writer.failures) }
     ensures held { F.locked folder.new ≡ F.locked folder.old }
     ensures digest { IfOk result (λ digest. written ≡ Ok digest) }
@@ -204,7 +204,7 @@ fn sync_part<F: Folder>(
     requires unwritten { IfErr written (λ _. 0 < F.Writer.failures writer) }
     ensures answer { (files : Option Files) (start : F.Writer) (bytes : List ℕ) → IsBegunPart F.Writer.contents files (F.files folder.old) part.now start
         → OnOk written (Appends (F.Writer.contents start) (F.Writer.contents writer) bytes) → AnswersPart part.now bytes files (F.files folder.new) result }
-    ensures counted { MatchResult result (λ _. F.failures folder.new ≡ F.failures folder.old) (λ step. F.failures folder.new ≡ F.failures folder.old + failed_at step) }
+    ensures counted { MatchResult result (λ _. F.failures folder.new ≡ F.failures folder.old) (λ step. F.failures folder.new ≡ F.failures folder.old + failures_at step) }
     ensures unwritten { result ≡ Err Step.Write → HasFailed F.Writer.failures }
     ensures held { F.locked folder.new ≡ F.locked folder.old }
     ensures digest { IfOk result (λ digest. written ≡ Ok digest) }
@@ -229,7 +229,7 @@ fn rename_part<F: Folder>(
     requires failures { F.failures folder.old < 2 ^ 64 - 2 }
     requires part { part.now ≡ part_of name.now }
     ensures answer { (files : Option Files) (bytes : List ℕ) → Goes files (F.files folder.old) (ArePart part.now bytes) → AnswersWhole name.now bytes files (F.files folder.new) result }
-    ensures counted { MatchResult result (λ _. F.failures folder.new ≡ F.failures folder.old) (λ fault. F.failures folder.new ≡ F.failures folder.old + failed_in fault) }
+    ensures counted { MatchResult result (λ _. F.failures folder.new ≡ F.failures folder.old) (λ fault. F.failures folder.new ≡ F.failures folder.old + failures_in fault) }
     ensures unwritten { IfErr result (λ fault. fault.step ≢ Step.Write) }
     ensures held { F.locked folder.new ≡ F.locked folder.old }
     ensures digest { IfOk result (λ given. given ≡ digest) }
@@ -266,7 +266,7 @@ fn give_up<F: Folder>(folder: &mut F, part: &str, step: Step) -> NotWhole
     requires { F.failures folder.old < 2 ^ 64 - 1 }
     ensures step { result.step ≡ step }
     ensures given_up { Goes (F.files folder.old) (F.files folder.new) (AreGivenUp part.now result) }
-    ensures counted { F.failures folder.new + failed_at step ≡ F.failures folder.old + failed_in result }
+    ensures counted { F.failures folder.new + failures_at step ≡ F.failures folder.old + failures_in result }
     ensures held { F.locked folder.new ≡ F.locked folder.old }
 {
     let left = step.may_leave() && folder.remove(part).is_err();

@@ -13,19 +13,19 @@ use Rattle.morris_pairs.specs.declared.file_faults.ReadFault.TheVariants as read
 use Rattle.morris_files.specs.Files.{Files, HasFailed}
 use Rattle.morris_files.specs.Lists.{IsUnlisted}
 use Rattle.morris_files.specs.Names.{digests_name_of}
-use Rattle.morris_files.specs.declared.kept.KeptFault.{KeptFault}
-use Rattle.morris_files.specs.declared.kept.KeptFault.TheVariants as kept
-use Rattle.morris_files.specs.declared.old_list.ListFault.{ListFault}
-use Rattle.morris_files.specs.declared.old_list.ListFault.TheVariants as list
+use Rattle.morris_files.specs.declared.stored.StoredFault.{StoredFault}
+use Rattle.morris_files.specs.declared.stored.StoredFault.TheVariants as stored
+use Rattle.morris_files.specs.declared.old_checksums.ListFault.{ListFault}
+use Rattle.morris_files.specs.declared.old_checksums.ListFault.TheVariants as list
 use Rattle.morris_jobs.specs.declared.fault.Fault.{Fault}
 use Rattle.morris_jobs.specs.declared.fault.Fault.TheVariants as fault
 use Rattle.morris_jobs.specs.declared.flaw.Flaw.TheVariants as flaw
 use Rattle.morris_jobs.specs.Faults.{PrintsLine, in_file, read_fault, solve_fault}
 use Rattle.morris_jobs.specs.Inputs.{IsUnfit}
-use Rattle.morris_jobs.specs.Orders.{IsUnbuiltAt}
+use Rattle.morris_jobs.specs.Building.{IsUnbuiltAt}
 use Rattle.morris_jobs.proofs.OrderLaws.{of_unfit, of_unread}
 use Rattle.morris_jobs.specs.PairText.{read_pair_of}
-use Rattle.morris_files.specs.Whole.{failed_in}
+use Rattle.morris_files.specs.Whole.{failures_in}
 use Rattle.morris_files.specs.declared.whole.NotWhole.{NotWhole}
 use Rattle.morris_files.specs.declared.whole.Step.{Step}
 use Rattle.morris_files.specs.declared.whole.Step.TheVariants as step
@@ -34,7 +34,7 @@ use Rattle.morris_folder_commands.specs.Causes.{HasCause, IsCaused, MayBeLong}
 use Rattle.morris_folder_commands.specs.Entering.{list_fault}
 use Rattle.morris_folder_commands.specs.Into.{step_fault}
 use Rattle.morris_folder_commands.specs.Entering.{IsEntered, lock_name}
-use Rattle.morris_folder_commands.specs.From.{TakesIn, ended, kept_fault}
+use Rattle.morris_folder_commands.specs.From.{TakesIn, end_of, stored_fault}
 
 -- ---- the list of digests
 
@@ -101,24 +101,24 @@ module _ {R W : Type 0} (reading : R → ℕ) (writing : W → ℕ) where
     line_caused text sent before after (fault.Write now) h = tt
     line_caused text sent before after _ h = absurd h
 
-    unfit_caused : (board : Shape) (stock : Stored) (t : Table) (f : Fault) → IsUnfit board stock t f → Caused (in_file t.pair f)
-    unfit_caused board stock t (fault.Needs greater lesser) h = tt
-    unfit_caused board stock t (fault.Differs index) h = tt
-    unfit_caused board stock t _ h = absurd h
+    unfit_caused : (board : Shape) (tables : Stored) (t : Table) (f : Fault) → IsUnfit board tables t f → Caused (in_file t.pair f)
+    unfit_caused board tables t (fault.Needs greater lesser) h = tt
+    unfit_caused board tables t (fault.Differs index) h = tt
+    unfit_caused board tables t _ h = absurd h
 
     -- the end, where no call failed
-    pub end_caused : (found : Bool) → new ≡ old → HasCause reading writing taken long old new (ended found)
+    pub end_caused : (found : Bool) → new ≡ old → HasCause reading writing taken long old new (end_of found)
     end_caused true none = none
     end_caused false none = tt
 
     -- a table that isn't taken in
-    pub taken_caused : (board : Shape) (stock joined : Stored) (t : Table) (sent : ℕ) (before after : Option (List ℕ)) (f : Fault)
-        → TakesIn board stock joined t sent before after (Err f) → Caused f
-    taken_caused board stock joined t sent before after f takes = elim takes [
+    pub taken_caused : (board : Shape) (tables joined : Stored) (t : Table) (sent : ℕ) (before after : Option (List ℕ)) (f : Fault)
+        → TakesIn board tables joined t sent before after (Err f) → Caused f
+    taken_caused board tables joined t sent before after f takes = elim takes [
       | inl why ↦
           let e = why.1 in
           let same : why.0 ≡ f = cc in
-          subst Caused (sym why.2.2 ∙ same) (unfit_caused board stock t why.2.0 why.2.1)
+          subst Caused (sym why.2.2 ∙ same) (unfit_caused board tables t why.2.0 why.2.1)
       | inr both ↦ line_caused _ sent before after f both.1
     ]
 
@@ -126,8 +126,8 @@ module _ {R W : Type 0} (reading : R → ℕ) (writing : W → ℕ) where
     pub text_caused : (n : ℕ) (text : List ℕ) (f : Fault) → Err f ≡ read_pair_of n text → Caused f
     text_caused = of_unread Caused tt tt tt
 
-    pub team_caused : (wrong : Option SolveFault) (f : Fault) → option_map solve_fault wrong ≡ Some f → Caused f
-    team_caused = of_unfit Caused tt tt tt (λ number. tt) tt
+    pub parallelism_caused : (wrong : Option SolveFault) (f : Fault) → option_map solve_fault wrong ≡ Some f → Caused f
+    parallelism_caused = of_unfit Caused tt tt tt (λ number. tt) tt
 
     -- ---- a file of the folder
 
@@ -137,39 +137,39 @@ module _ {R W : Type 0} (reading : R → ℕ) (writing : W → ℕ) where
     refused_caused c _ why = tt
 
     -- one that isn't had, after calls of which some may have failed
-    kept_caused : (mid : ℕ) → old ≤ mid → (c : Counts) (refused : KeptFault) → IsCaused reading writing taken long mid new (kept_fault c refused)
-        → Caused (kept_fault c refused)
-    kept_caused mid up c kept.Memory h = tt
-    kept_caused mid up c kept.Unopened h =
+    kept_caused : (mid : ℕ) → old ≤ mid → (c : Counts) (refused : StoredFault) → IsCaused reading writing taken long mid new (stored_fault c refused)
+        → Caused (stored_fault c refused)
+    kept_caused mid up c stored.Memory h = tt
+    kept_caused mid up c stored.Unopened h =
         let more : mid < new = h in
         let low : old < new = omega (arith, up, more) in
         low
-    kept_caused mid up c (kept.Refused read.Read) h = h
-    kept_caused mid up c (kept.Refused _) h = tt
-    kept_caused mid up c kept.OtherPair h = tt
+    kept_caused mid up c (stored.Refused read.Read) h = h
+    kept_caused mid up c (stored.Refused _) h = tt
+    kept_caused mid up c stored.OtherPair h = tt
 
-    pub file_caused : (mid : ℕ) → old ≤ mid → (c : Counts) (refused : KeptFault) (f : Fault) → f ≡ kept_fault c refused
+    pub file_caused : (mid : ℕ) → old ≤ mid → (c : Counts) (refused : StoredFault) (f : Fault) → f ≡ stored_fault c refused
         → IsCaused reading writing taken long mid new f → Caused f
     file_caused mid up c refused f is h = subst Caused (sym is) (kept_caused mid up c refused (subst (IsCaused reading writing taken long mid new) is h))
 
     -- ---- a file that isn't written
 
     -- a call of the folder failed, or one of a writer, where memory wasn't wanting
-    step_caused : (told : Fault) → ((old < new) ⊎ HasFailed writing → Caused told) → (f : NotWhole) → new ≡ old + failed_in f
-        → (f.step ≡ step.Write → HasFailed writing) → Caused (step_fault told f.step)
-    step_caused told is_told f counted unwritten = by_step f.step refl
+    step_caused : (reported : Fault) → ((old < new) ⊎ HasFailed writing → Caused reported) → (f : NotWhole) → new ≡ old + failures_in f
+        → (f.step ≡ step.Write → HasFailed writing) → Caused (step_fault reported f.step)
+    step_caused reported is_reported f counted unwritten = by_step f.step refl
       where
-        why : (s : Step) → f.step ≡ s → (s ≡ step.Memory → ⊥) → Caused told
-        why s is other = is_told (whole_failed writing old new f (λ e. other (sym is ∙ e)) counted unwritten)
+        why : (s : Step) → f.step ≡ s → (s ≡ step.Memory → ⊥) → Caused reported
+        why s is other = is_reported (whole_failed writing old new f (λ e. other (sym is ∙ e)) counted unwritten)
 
-        by_step : (s : Step) → f.step ≡ s → Caused (step_fault told s)
+        by_step : (s : Step) → f.step ≡ s → Caused (step_fault reported s)
         by_step step.Memory is = tt
         by_step s is = why s is (λ e. cc)
 
-    pub digests_caused : (f : NotWhole) → new ≡ old + failed_in f → (f.step ≡ step.Write → HasFailed writing) → Caused (step_fault fault.Digests f.step)
+    pub digests_caused : (f : NotWhole) → new ≡ old + failures_in f → (f.step ≡ step.Write → HasFailed writing) → Caused (step_fault fault.Digests f.step)
     digests_caused = step_caused fault.Digests (λ why. elim why [ inl low ↦ inl low | inr failed ↦ inr (inr (inl failed)) ])
 
-    pub unwritten_caused : (c : Counts) (f : NotWhole) → new ≡ old + failed_in f → (f.step ≡ step.Write → HasFailed writing)
+    pub unwritten_caused : (c : Counts) (f : NotWhole) → new ≡ old + failures_in f → (f.step ≡ step.Write → HasFailed writing)
         → Caused (step_fault (fault.Unwritten c.greater c.lesser) f.step)
     unwritten_caused c = step_caused (fault.Unwritten c.greater c.lesser) (λ why. why)
 

@@ -10,19 +10,19 @@ use Rattle.morris_board.specs.Boards.{Shape}
 use Rattle.morris_board.specs.Positions.{is_between}
 use Rattle.morris_index.specs.declared.faults.PairFault.{PairFault}
 use Rattle.morris_index.specs.declared.faults.PairFault.TheVariants as pairs
-use Rattle.morris_index.specs.Pairs.{Counts, all_pairs, pair_made}
+use Rattle.morris_index.specs.Pairs.{Counts, all_pairs, make_pair}
 use Rattle.morris_pairs.specs.Shelves.{Stored}
 use Rattle.morris_pairs.specs.Tables.{Table}
 use Rattle.morris_pairs.specs.declared.file_faults.ReadFault.TheVariants as read
 use Rattle.morris_files.specs.Files.{Files, HasFailed, HasNone, IsReaderOf}
 use Rattle.morris_files.specs.Files as folder
-use Rattle.morris_files.specs.Kept.{AnswersKept, HasFile, failed_opening}
+use Rattle.morris_files.specs.Stored.{AnswersStored, HasFile, failures_opening}
 use Rattle.morris_files.specs.Names.{name_of}
-use Rattle.morris_files.specs.declared.kept.KeptFault.{KeptFault}
-use Rattle.morris_files.specs.declared.kept.KeptFault.TheVariants as kept
+use Rattle.morris_files.specs.declared.stored.StoredFault.{StoredFault}
+use Rattle.morris_files.specs.declared.stored.StoredFault.TheVariants as stored
 use Rattle.morris_jobs.specs.declared.fault.Fault.{Fault}
-use Rattle.morris_jobs.specs.Orders.{KeepsNear}
-use Rattle.morris_folder_commands.specs.From.{TakesIn, Verifies, ended, fits, pairs_of}
+use Rattle.morris_jobs.specs.Building.{RetainsNear}
+use Rattle.morris_folder_commands.specs.From.{TakesIn, Verifies, end_of, fits, pairs_of}
 use Rattle.morris_folder_commands.specs.FromSteps.{AnswersFile, IsAhead, IsReadAhead, place_is}
 
 -- ---- all pairs
@@ -64,15 +64,15 @@ module _ (place : ℕ) (d : Counts) (is : slice_get all_pairs place ≡ Some d) 
   next_crowded board h = rest board ∙ rw h refl
 
   -- what the code makes of the two numbers
-  pub made : (board : Shape) (n : ℕ) → board.points ≡ n → (fits board d ≡ true → pair_made n d.greater d.lesser ≡ Ok d) × (fits board d ≡ false → pair_made n d.greater d.lesser ≡ Err pairs.Crowded)
+  pub made : (board : Shape) (n : ℕ) → board.points ≡ n → (fits board d ≡ true → make_pair n d.greater d.lesser ≡ Ok d) × (fits board d ≡ false → make_pair n d.greater d.lesser ≡ Err pairs.Crowded)
   made board n points =
       let parts = and_parts (is_between 3 d.greater 9 && is_between 3 d.lesser 9) (leb d.lesser d.greater) lawful in
       let numbers = parts.0 in
-      let order = parts.1 in
-      (λ h. rw (← points, numbers, h, order) refl, λ h. rw (← points, numbers, h) refl)
+      let build_args = parts.1 in
+      (λ h. rw (← points, numbers, h, build_args) refl, λ h. rw (← points, numbers, h) refl)
 
 pub made_place : (board : Shape) (n place : ℕ) (d : Counts) (r : Result Counts PairFault) → board.points ≡ n → slice_get all_pairs place ≡ Some d
-    → r ≡ pair_made n d.greater d.lesser → MatchResult r (λ c. place_is board place (Some c)) (λ _. place_is board place None)
+    → r ≡ make_pair n d.greater d.lesser → MatchResult r (λ c. place_is board place (Some c)) (λ _. place_is board place None)
 made_place board n place d r points is e =
     let P : Result Counts PairFault → Type 0 = λ x. MatchResult x (λ c. place_is board place (Some c)) (λ _. place_is board place None) in
     elim (cases_Bool (fits board d)) [
@@ -92,36 +92,36 @@ none_left board place h = ap (filter (fits board)) (past all_pairs place (omega 
 -- ---- files that are kept
 
 -- what is known of a file of a folder is so of it before calls that change no file
-pub file_before : (old new : Option Files) (name : List ℕ) (are : List ℕ → Type 0) → folder.Keeps old new → HasFile new name are → HasFile old name are
-file_before None new name are kept has = tt
-file_before (Some old) None name are kept has = absurd kept
-file_before (Some old) (Some new) name are kept has = (has.0, sym (kept name) ∙ has.1, has.2)
+pub file_before : (old new : Option Files) (name : List ℕ) (are : List ℕ → Type 0) → folder.AreUnchanged old new → HasFile new name are → HasFile old name are
+file_before None new name are unchanged has = tt
+file_before (Some old) None name are unchanged has = absurd unchanged
+file_before (Some old) (Some new) name are unchanged has = (has.0, sym (unchanged name) ∙ has.1, has.2)
 
-none_before : (old new : Option Files) (name : List ℕ) → folder.Keeps old new → HasNone new name → HasNone old name
-none_before None new name kept none = tt
-none_before (Some old) None name kept none = absurd kept
-none_before (Some old) (Some new) name kept none = sym (kept name) ∙ none
+none_before : (old new : Option Files) (name : List ℕ) → folder.AreUnchanged old new → HasNone new name → HasNone old name
+none_before None new name unchanged none = tt
+none_before (Some old) None name unchanged none = absurd unchanged
+none_before (Some old) (Some new) name unchanged none = sym (unchanged name) ∙ none
 
-pub answer_before : (board : Shape) (old new : Option Files) (name : List ℕ) (c : Counts) (answer : Result (Option Table) KeptFault)
-    → folder.Keeps old new → AnswersKept board new name c answer → AnswersKept board old name c answer
-answer_before board old new name c (Ok None) kept said = none_before old new name kept said
-answer_before board old new name c (Ok (Some t)) kept said = (said.0, file_before old new name _ kept said.1)
-answer_before board old new name c (Err kept.Memory) kept said = tt
-answer_before board old new name c (Err kept.Unopened) kept said = tt
-answer_before board old new name c (Err (kept.Refused refused)) kept said = file_before old new name _ kept said
-answer_before board old new name c (Err kept.OtherPair) kept said = (said.0, said.1, file_before old new name _ kept said.2)
+pub answer_before : (board : Shape) (old new : Option Files) (name : List ℕ) (c : Counts) (answer : Result (Option Table) StoredFault)
+    → folder.AreUnchanged old new → AnswersStored board new name c answer → AnswersStored board old name c answer
+answer_before board old new name c (Ok None) unchanged said = none_before old new name unchanged said
+answer_before board old new name c (Ok (Some t)) unchanged said = (said.0, file_before old new name _ unchanged said.1)
+answer_before board old new name c (Err stored.Memory) unchanged said = tt
+answer_before board old new name c (Err stored.Unopened) unchanged said = tt
+answer_before board old new name c (Err (stored.Refused refused)) unchanged said = file_before old new name _ unchanged said
+answer_before board old new name c (Err stored.OtherPair) unchanged said = (said.0, said.1, file_before old new name _ unchanged said.2)
 
-pub reader_before : (old new : Option Files) (name : List ℕ) (remaining : Option (List ℕ)) → folder.Keeps old new → IsReaderOf new name remaining
+pub reader_before : (old new : Option Files) (name : List ℕ) (remaining : Option (List ℕ)) → folder.AreUnchanged old new → IsReaderOf new name remaining
     → IsReaderOf old name remaining
-reader_before None new name remaining kept is = tt
-reader_before (Some old) None name remaining kept is = absurd kept
-reader_before (Some old) (Some new) name remaining kept is = (is.0, sym (kept name) ∙ is.1, is.2)
+reader_before None new name remaining unchanged is = tt
+reader_before (Some old) None name remaining unchanged is = absurd unchanged
+reader_before (Some old) (Some new) name remaining unchanged is = (is.0, sym (unchanged name) ∙ is.1, is.2)
 
-pub kept_as_is : (files : Option Files) → folder.Keeps files files
+pub kept_as_is : (files : Option Files) → folder.AreUnchanged files files
 kept_as_is None = tt
 kept_as_is (Some files) = λ name. refl
 
-pub kept_on : (a b c : Option Files) → folder.Keeps a b → folder.Keeps b c → folder.Keeps a c
+pub kept_on : (a b c : Option Files) → folder.AreUnchanged a b → folder.AreUnchanged b c → folder.AreUnchanged a c
 kept_on None b c p q = tt
 kept_on (Some a) None c p q = absurd p
 kept_on (Some a) (Some b) None p q = absurd q
@@ -140,23 +140,23 @@ module _ {R : Type 0} (reading : R → ℕ) (board : Shape) (files : Option File
       let both : Some d ≡ Some c = sym other.0 ∙ is.0 in
       cc
 
-  pub ahead_opened : (answer : Option (Result (Option Table) KeptFault)) → IsAhead reading board files name place answer
-      → IfSome answer (λ a. failed_opening a ≡ 0)
+  pub ahead_opened : (answer : Option (Result (Option Table) StoredFault)) → IsAhead reading board files name place answer
+      → IfSome answer (λ a. failures_opening a ≡ 0)
   ahead_opened None ahead = tt
   ahead_opened (Some a) ahead = ahead.2.1
 
-  pub ahead_unread : (answer : Option (Result (Option Table) KeptFault)) → IsAhead reading board files name place answer
-      → IfSome answer (λ a. a ≡ Err (kept.Refused read.Read) → HasFailed reading)
+  pub ahead_unread : (answer : Option (Result (Option Table) StoredFault)) → IsAhead reading board files name place answer
+      → IfSome answer (λ a. a ≡ Err (stored.Refused read.Read) → HasFailed reading)
   ahead_unread None ahead = tt
   ahead_unread (Some a) ahead = ahead.2.2
 
-  pub ahead_answer : (c : Counts) → place_is board place (Some c) → (answer : Option (Result (Option Table) KeptFault))
-      → IsAhead reading board files name place answer → IfSome answer (AnswersKept board files (name_of name c) c)
+  pub ahead_answer : (c : Counts) → place_is board place (Some c) → (answer : Option (Result (Option Table) StoredFault))
+      → IsAhead reading board files name place answer → IfSome answer (AnswersStored board files (name_of name c) c)
   ahead_answer c is None ahead = tt
-  ahead_answer c is (Some a) ahead = subst (λ d. AnswersKept board files (name_of name d) d a) (same_pair c ahead.0 is ahead.1) ahead.2.0
+  ahead_answer c is (Some a) ahead = subst (λ d. AnswersStored board files (name_of name d) d a) (same_pair c ahead.0 is ahead.1) ahead.2.0
 
   -- nothing is known of a place without a pair of the board
-  pub ahead_passes : place_is board place None → (answer : Option (Result (Option Table) KeptFault)) → IsAhead reading board files name place answer
+  pub ahead_passes : place_is board place None → (answer : Option (Result (Option Table) StoredFault)) → IsAhead reading board files name place answer
       → IsAhead reading board files name (place + 1) answer
   ahead_passes none None ahead = tt
   ahead_passes none (Some a) ahead =
@@ -166,52 +166,52 @@ module _ {R : Type 0} (reading : R → ℕ) (board : Shape) (files : Option File
       cc
 
   -- what was read is known, or nothing is
-  pub ahead_read : (c : Counts) → place_is board place (Some c) → (known : Option (Result (Option Table) KeptFault)) (answer : Result (Option Table) KeptFault)
+  pub ahead_read : (c : Counts) → place_is board place (Some c) → (known : Option (Result (Option Table) StoredFault)) (answer : Result (Option Table) StoredFault)
       → IfSome known (λ k. k ≡ answer) → IsReadAhead reading board files (name_of name c) c answer → IsAhead reading board files name place known
   ahead_read c is None answer same said = tt
   ahead_read c is (Some k) answer same said = (c, is, subst (IsReadAhead reading board files (name_of name c) c) (sym same) said)
 
-  pub none_ahead : (known : Option (Result (Option Table) KeptFault)) → known ≡ None → IsAhead reading board files name place known
+  pub none_ahead : (known : Option (Result (Option Table) StoredFault)) → known ≡ None → IsAhead reading board files name place known
   none_ahead known none = subst (IsAhead reading board files name place) (sym none) tt
 
-  pub ahead_before : (later : Option Files) → folder.Keeps files later → (answer : Option (Result (Option Table) KeptFault))
+  pub ahead_before : (later : Option Files) → folder.AreUnchanged files later → (answer : Option (Result (Option Table) StoredFault))
       → IsAhead reading board later name place answer → IsAhead reading board files name place answer
-  ahead_before later kept None ahead = tt
-  ahead_before later kept (Some a) ahead =
-      (ahead.0, ahead.1, (answer_before board files later (name_of name ahead.0) ahead.0 a kept ahead.2.0, ahead.2.1, ahead.2.2))
+  ahead_before later unchanged None ahead = tt
+  ahead_before later unchanged (Some a) ahead =
+      (ahead.0, ahead.1, (answer_before board files later (name_of name ahead.0) ahead.0 a unchanged ahead.2.0, ahead.2.1, ahead.2.2))
 
 -- ---- the pairs one after the other
 
 module _ (board : Shape) (files : Option Files) (name : List ℕ) (start : Option (List ℕ)) (empty : Stored) where
   -- Some pairs are done: what the others lead to, to that all lead.
   abbrev pub Leads : List Counts → Stored → Bool → ℕ → Option (List ℕ) → Type 0
-  Leads pairs stock found sent here =
-      (after : Option (List ℕ)) (result : Result (Unit {0}) Fault) → Verifies board files name pairs stock found sent here after result
+  Leads pairs tables found sent here =
+      (after : Option (List ℕ)) (result : Result (Unit {0}) Fault) → Verifies board files name pairs tables found sent here after result
       → Verifies board files name (pairs_of board) empty false 0 start after result
 
   -- no pair is left
-  pub at_end : (place : ℕ) (stock : Stored) (found : Bool) (sent : ℕ) (here : Option (List ℕ)) (result : Result (Unit {0}) Fault) → 28 ≤ place
-      → Leads (filter (fits board) (drop place all_pairs)) stock found sent here → result ≡ ended found
+  pub at_end : (place : ℕ) (tables : Stored) (found : Bool) (sent : ℕ) (here : Option (List ℕ)) (result : Result (Unit {0}) Fault) → 28 ≤ place
+      → Leads (filter (fits board) (drop place all_pairs)) tables found sent here → result ≡ end_of found
       → Verifies board files name (pairs_of board) empty false 0 start here result
   unfolding Verifies
-  at_end place stock found sent here result past leads end =
-      let last : Leads [] stock found sent here = subst (λ ps. Leads ps stock found sent here) (none_left board place past) leads in
+  at_end place tables found sent here result past leads end =
+      let last : Leads [] tables found sent here = subst (λ ps. Leads ps tables found sent here) (none_left board place past) leads in
       last here result (end, Keeps-refl here)
 
   -- a pair that the board has no points for, and one that it has
-  pub skip_pair : (place : ℕ) (stock : Stored) (found : Bool) (sent : ℕ) (here : Option (List ℕ)) → place_is board place None
-      → Leads (filter (fits board) (drop place all_pairs)) stock found sent here → Leads (filter (fits board) (drop (place + 1) all_pairs)) stock found sent here
-  skip_pair place stock found sent here is leads =
-      subst (λ ps. Leads ps stock found sent here) (next_crowded place is.0 is.1 board is.2) leads
+  pub skip_pair : (place : ℕ) (tables : Stored) (found : Bool) (sent : ℕ) (here : Option (List ℕ)) → place_is board place None
+      → Leads (filter (fits board) (drop place all_pairs)) tables found sent here → Leads (filter (fits board) (drop (place + 1) all_pairs)) tables found sent here
+  skip_pair place tables found sent here is leads =
+      subst (λ ps. Leads ps tables found sent here) (next_crowded place is.0 is.1 board is.2) leads
 
-  pub take_pair : (place : ℕ) (c : Counts) (stock : Stored) (found : Bool) (sent : ℕ) (here : Option (List ℕ)) → place_is board place (Some c)
-      → Leads (filter (fits board) (drop place all_pairs)) stock found sent here
-      → Leads (c ∷ filter (fits board) (drop (place + 1) all_pairs)) stock found sent here
-  take_pair place c stock found sent here is leads =
-      subst (λ ps. Leads ps stock found sent here) (next_fits place c is.0 board is.1) leads
+  pub take_pair : (place : ℕ) (c : Counts) (tables : Stored) (found : Bool) (sent : ℕ) (here : Option (List ℕ)) → place_is board place (Some c)
+      → Leads (filter (fits board) (drop place all_pairs)) tables found sent here
+      → Leads (c ∷ filter (fits board) (drop (place + 1) all_pairs)) tables found sent here
+  take_pair place c tables found sent here is leads =
+      subst (λ ps. Leads ps tables found sent here) (next_fits place c is.0 board is.1) leads
 
-  module _ (pairs : List Counts) (c : Counts) (stock : Stored) (found : Bool) (sent : ℕ) (here : Option (List ℕ))
-      (leads : Leads (c ∷ pairs) stock found sent here) (near : Stored) (goes : KeepsNear stock near c) where
+  module _ (pairs : List Counts) (c : Counts) (tables : Stored) (found : Bool) (sent : ℕ) (here : Option (List ℕ))
+      (leads : Leads (c ∷ pairs) tables found sent here) (near : Stored) (goes : RetainsNear tables near c) where
     -- a file that isn't had
     pub failed_file : (f : Fault) → AnswersFile board files (name_of name c) c (Err f)
         → Verifies board files name (pairs_of board) empty false 0 start here (Err f)

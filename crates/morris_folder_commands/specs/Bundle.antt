@@ -10,26 +10,26 @@ use Rattle.morris_jobs.specs.declared.fault.Fault.TheVariants as fault
 use Rattle.morris_jobs.specs.Answering.{OnBoard}
 use Rattle.morris_jobs.specs.Bundles.{TakesBundle, most_files}
 use Rattle.morris_jobs.specs.Inputs.{Input}
-use Rattle.morris_jobs.specs.Orders.{KeepsNear}
-use Rattle.morris_folder_commands.specs.From.{TakesIn, ended}
+use Rattle.morris_jobs.specs.Building.{RetainsNear}
+use Rattle.morris_folder_commands.specs.From.{TakesIn, end_of}
 
 -- how far it is: the stock of tables, whether there was a file, how many bytes were printed, and
 -- what the output has taken
 pub record Reached : Type 0 where
-  pub stock : Stored
+  pub tables : Stored
   pub some : Bool
   pub sent : ℕ
   pub out : Option (List ℕ)
 
 abbrev pub reached : Stored → Bool → ℕ → Option (List ℕ) → Reached
-reached stock some sent out = record { stock = stock; some = some; sent = sent; out = out }
+reached tables some sent out = record { tables = tables; some = some; sent = sent; out = out }
 
 -- What becomes of a table: those are let go that neither its pair nor one of more stones needs, and
 -- then it joins the others and its line is printed; or the command ends.
 abbrev pub TakesFile : Shape → Reached → Table → Reached → Result (Unit {0}) Fault → Type 0
 TakesFile board here t next taken =
-    (near : Stored) × KeepsNear here.stock near t.pair × (next.some ≡ true)
-    × TakesIn board near next.stock t here.sent here.out next.out (elim taken [ Ok done ↦ Ok next.sent | Err refused ↦ Err refused ])
+    (near : Stored) × RetainsNear here.tables near t.pair × (next.some ≡ true)
+    × TakesIn board near next.tables t here.sent here.out next.out (elim taken [ Ok done ↦ Ok next.sent | Err refused ↦ Err refused ])
 
 -- What it answers on a board: there is no room for a stock, with nothing read and nothing printed;
 -- otherwise what comes of the bundle, over an empty one.
@@ -38,7 +38,7 @@ AnswersBundleOn board before after old new result =
     ((result ≡ Err fault.Memory) × (after ≡ before) × Keeps old new)
     ⊎ ((empty : Stored) × ((c : Counts) → table_on empty c ≡ None)
     × (last : Reached) × (last.out ≡ new)
-    × TakesBundle board (TakesFile board) (λ here. ended here.some) most_files (reached empty false 0 old) before (result, last, after))
+    × TakesBundle board (TakesFile board) (λ here. end_of here.some) most_files (reached empty false 0 old) before (result, last, after))
 
 -- what it answers on the board of a name
 abbrev pub AnswersBundle : Option Shape → Input → Input → Option (List ℕ) → Option (List ℕ) → Result (Unit {0}) Fault → Type 0

@@ -5,9 +5,9 @@ use Rattle.morris_index.specs.Pairs.{Counts}
 use Rattle.morris_files.specs.Files.{AreSameBut, AreSameButTwo, Files, Goes}
 use Rattle.morris_files.specs.Files as folder
 use Rattle.morris_files.specs.Whole.{AreWhole, part_of}
-use Rattle.morris_files.specs.Lists.{AreKeptLines}
-use Rattle.morris_files.specs.declared.old_list.ListFault.{ListFault}
-use Rattle.morris_files.specs.declared.old_list.ListFault.TheVariants as list
+use Rattle.morris_files.specs.Lists.{AreRetainedLines}
+use Rattle.morris_files.specs.declared.old_checksums.ListFault.{ListFault}
+use Rattle.morris_files.specs.declared.old_checksums.ListFault.TheVariants as list
 use Rattle.morris_files.specs.Names.{digests_name_of}
 use Rattle.morris_jobs.specs.declared.fault.Fault.{Fault}
 use Rattle.morris_jobs.specs.declared.fault.Fault.TheVariants as fault
@@ -25,8 +25,8 @@ IsEntered old new = Goes old new (AreSameBut lock_name)
 -- Why a folder isn't entered, and what that leaves: it can't be made, or isn't there, with nothing
 -- changed; it can't be locked, or another has the lock, with what stands under its name open.
 abbrev pub IsShut : Option Files → Option Files → Fault → Type 0
-IsShut old new fault.Folder = folder.Keeps old new
-IsShut old new fault.NoFolder = folder.Keeps old new
+IsShut old new fault.Folder = folder.AreUnchanged old new
+IsShut old new fault.NoFolder = folder.AreUnchanged old new
 IsShut old new fault.Unlocked = IsEntered old new
 IsShut old new fault.Busy = IsEntered old new
 IsShut old new _ = ⊥
@@ -40,9 +40,9 @@ IsLeft name [] old new = (new (digests_name_of name) ≡ None) × AreSameBut (di
 IsLeft name (byte ∷ bytes) old new = AreWhole (digests_name_of name) (byte ∷ bytes) old new
 
 -- the lines of files that aren't replaced are had, and the list has these alone
-pub record IsBegun (name : List ℕ) (replaced : Counts) (kept : List ℕ) (old new : Option Files) : Type 0 where
-  pub lines : AreKeptLines name replaced old kept
-  pub left : Goes old new (IsLeft name kept)
+pub record IsBegun (name : List ℕ) (replaced : Counts) (unchanged : List ℕ) (old new : Option Files) : Type 0 where
+  pub lines : AreRetainedLines name replaced old unchanged
+  pub left : Goes old new (IsLeft name unchanged)
 
 -- the fault of lines that aren't had
 abbrev pub list_fault : ListFault → Fault
@@ -59,5 +59,5 @@ IsUnbegun name old new _ = ⊥
 
 -- what the beginning of the list answers
 abbrev pub BeginsList : List ℕ → Counts → Option Files → Option Files → Result (List ℕ) Fault → Type 0
-BeginsList name replaced old new (Ok kept) = IsBegun name replaced kept old new
+BeginsList name replaced old new (Ok unchanged) = IsBegun name replaced unchanged old new
 BeginsList name replaced old new (Err refused) = IsUnbegun name old new refused

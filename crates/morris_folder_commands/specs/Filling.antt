@@ -14,7 +14,7 @@ use Rattle.morris_files.specs.Digests.{digest_lines}
 use Rattle.morris_files.specs.declared.table_file.Written.{Written}
 use Rattle.morris_jobs.specs.declared.fault.Fault.{Fault}
 use Rattle.morris_jobs.specs.Faults.{PrintsLine}
-use Rattle.morris_jobs.specs.Orders.{HasExactAt}
+use Rattle.morris_jobs.specs.Building.{HasExactAt}
 use Rattle.morris_folder_commands.specs.Into.{Ends, Fills, FillsFolder, IsFiled, IsUnfiled, Place, filed_text}
 
 -- what is told of the file of a table
@@ -25,15 +25,15 @@ pub record IsOf {B : Type 0} (board : Shape) (t : Table) (w : Written B) : Type 
   pub digest : w.digest ≡ sha256 (file_of board t)
 
 -- the file of a table is written, and told of; or it isn't
-abbrev pub KeepsTable : {B : Type 0} → Shape → List ℕ → Table → Option Files → Option Files → Result (Written B) Fault → Type 0
-KeepsTable board name t old new (Ok w) = IsFiled board name t old new × IsOf board t w
-KeepsTable board name t old new (Err refused) = IsUnfiled board name t old new refused
+abbrev pub StoresTable : {B : Type 0} → Shape → List ℕ → Table → Option Files → Option Files → Result (Written B) Fault → Type 0
+StoresTable board name t old new (Ok w) = IsFiled board name t old new × IsOf board t w
+StoresTable board name t old new (Err refused) = IsUnfiled board name t old new refused
 
 -- once the file of digests is written, or isn't, the folder is filled; the list begins with the
 -- lines that were kept
 abbrev pub IsFilledBut : Shape → Layout → List ℕ → Counts → ℕ → List ℕ → Place → Place → List ℕ → Type 0
-IsFilledBut board l name pair blocks kept before here digests =
-    (after : Place) (result : Result (Unit {0}) Fault) → Ends name (kept ++ digests) here after result → FillsFolder board l name pair blocks kept before after result
+IsFilledBut board l name pair blocks unchanged before here digests =
+    (after : Place) (result : Result (Unit {0}) Fault) → Ends name (unchanged ++ digests) here after result → FillsFolder board l name pair blocks unchanged before after result
 
 -- ---- how far a folder is filled
 
@@ -58,25 +58,25 @@ rest_of {B = B} name written sent waiting pairs here = record {
 -- whatever ends one rest ends the other
 abbrev pub LeadsTo : Shape → Layout → List ℕ → ℕ → Rest → Rest → Type 0
 LeadsTo board l name blocks from to =
-    (kept : List ℕ) (after : Place) (result : Result (Unit {0}) Fault)
-    → Fills board l name blocks kept to.pairs to.sent to.digests to.here after result
-    → Fills board l name blocks kept from.pairs from.sent from.digests from.here after result
+    (unchanged : List ℕ) (after : Place) (result : Result (Unit {0}) Fault)
+    → Fills board l name blocks unchanged to.pairs to.sent to.digests to.here after result
+    → Fills board l name blocks unchanged from.pairs from.sent from.digests from.here after result
 
 -- one rest leads to another, or is refused there
 abbrev pub GoesOn : {T : Type 0} → Shape → Layout → List ℕ → ℕ → Rest → Rest → Result T Fault → Type 0
 GoesOn board l name blocks from to (Ok done) = LeadsTo board l name blocks from to
 GoesOn board l name blocks from to (Err refused) =
-    (kept : List ℕ) → Fills board l name blocks kept from.pairs from.sent from.digests from.here to.here (Err refused)
+    (unchanged : List ℕ) → Fills board l name blocks unchanged from.pairs from.sent from.digests from.here to.here (Err refused)
 
 -- what is told of a file that was written, after others of which so many bytes were printed; or of
 -- a refusal
-abbrev pub Tells : {B : Type 0} → Result (Written B) Fault → List (Written B) → List (Written B) → ℕ → ℕ → Option (List ℕ) → Option (List ℕ)
+abbrev pub PrintsFile : {B : Type 0} → Result (Written B) Fault → List (Written B) → List (Written B) → ℕ → ℕ → Option (List ℕ) → Option (List ℕ)
     → Result (Unit {0}) Fault → Type 0
-Tells (Err refused) old new sent now before after result = (result ≡ Err refused) × (after ≡ before)
-Tells (Ok w) old new sent now before after (Ok done) =
+PrintsFile (Err refused) old new sent now before after result = (result ≡ Err refused) × (after ≡ before)
+PrintsFile (Ok w) old new sent now before after (Ok done) =
     AllSent before after sent now (filed_text w.pair w.entries w.bytes w.digest) × (new ≡ old ++ w ∷ [])
-Tells (Ok w) old new sent now before after (Err refused) = PrintsLine (filed_text w.pair w.entries w.bytes w.digest) sent before after (Err refused)
+PrintsFile (Ok w) old new sent now before after (Err refused) = PrintsLine (filed_text w.pair w.entries w.bytes w.digest) sent before after (Err refused)
 
 -- the table of a pair is there, and codes suffice for it
 abbrev pub IsThere : Shape → Layout → Stored → Counts → Type 0
-IsThere board l stock c = HasExactAt board l stock c × ¬ IsBeyondCodes board c
+IsThere board l tables c = HasExactAt board l tables c × ¬ IsBeyondCodes board c

@@ -7,15 +7,15 @@ use Rattle.morris_pairs.specs.Shelves.{Stored, table_on}
 use Rattle.morris_pairs.specs.Tables.{Table}
 use Rattle.morris_files.specs.Files.{Files}
 use Rattle.morris_files.specs.Files as folder
-use Rattle.morris_files.specs.Kept.{AnswersKept}
+use Rattle.morris_files.specs.Stored.{AnswersStored}
 use Rattle.morris_files.specs.Names.{name_of}
-use Rattle.morris_files.specs.declared.kept.KeptFault.{KeptFault}
-use Rattle.morris_files.specs.declared.kept.KeptFault.TheVariants as kept
+use Rattle.morris_files.specs.declared.stored.StoredFault.{StoredFault}
+use Rattle.morris_files.specs.declared.stored.StoredFault.TheVariants as stored
 use Rattle.morris_jobs.specs.declared.fault.Fault.{Fault}
 use Rattle.morris_jobs.specs.declared.fault.Fault.TheVariants as fault
 use Rattle.morris_jobs.specs.Faults.{PrintsLine, in_file, read_fault}
 use Rattle.morris_jobs.specs.Answering.{OnBoard}
-use Rattle.morris_jobs.specs.Orders.{KeepsNear}
+use Rattle.morris_jobs.specs.Building.{RetainsNear}
 use Rattle.morris_jobs.specs.Inputs.{IsUnfit, Joins}
 use Rattle.morris_jobs.specs.Verified.{verified_text}
 
@@ -28,38 +28,38 @@ unfoldable pub pairs_of : Shape → List Counts
 pairs_of board = filter (fits board) all_pairs
 
 -- the fault that a file which isn't had is told by: a flaw of the file says of which pair it is
-abbrev pub kept_fault : Counts → KeptFault → Fault
-kept_fault c kept.Memory = fault.Memory
-kept_fault c kept.Unopened = fault.Unopened c.greater c.lesser
-kept_fault c (kept.Refused refused) = in_file c (read_fault refused)
-kept_fault c kept.OtherPair = fault.OtherPair c.greater c.lesser
+abbrev pub stored_fault : Counts → StoredFault → Fault
+stored_fault c stored.Memory = fault.Memory
+stored_fault c stored.Unopened = fault.Unopened c.greater c.lesser
+stored_fault c (stored.Refused refused) = in_file c (read_fault refused)
+stored_fault c stored.OtherPair = fault.OtherPair c.greater c.lesser
 
 -- the line of a table
 abbrev pub verified_line : Table → List ℕ
 verified_line t = verified_text t.pair (length t.codes)
 
 -- the end, by whether there was a file, or none at all
-abbrev pub ended : Bool → Result (Unit {0}) Fault
-ended found = if found then Ok tt else Err fault.NoFiles
+abbrev pub end_of : Bool → Result (Unit {0}) Fault
+end_of found = if found then Ok tt else Err fault.NoFiles
 
 -- What follows from what a file is answered with: the fault of one that isn't had, with no line
 -- more printed; the next pair, where there is no file; or what becomes of the table.
-abbrev pub AfterFile : Counts → Option (List ℕ) → Option (List ℕ) → Result (Unit {0}) Fault → Type 0 → (Table → Type 0) → Result (Option Table) KeptFault → Type 0
-AfterFile c old new result next taken (Err refused) = (result ≡ Err (kept_fault c refused)) × Keeps old new
+abbrev pub AfterFile : Counts → Option (List ℕ) → Option (List ℕ) → Result (Unit {0}) Fault → Type 0 → (Table → Type 0) → Result (Option Table) StoredFault → Type 0
+AfterFile c old new result next taken (Err refused) = (result ≡ Err (stored_fault c refused)) × Keeps old new
 AfterFile c old new result next taken (Ok None) = next
 AfterFile c old new result next taken (Ok (Some t)) = taken t
 
 -- why a table doesn't join a stock, told of its file
 abbrev pub IsUnfitFile : Shape → Stored → Table → Fault → Type 0
-IsUnfitFile board stock t f = (refused : Fault) × IsUnfit board stock t refused × (f ≡ in_file t.pair refused)
+IsUnfitFile board tables t f = (refused : Fault) × IsUnfit board tables t refused × (f ≡ in_file t.pair refused)
 
 -- What becomes of a table over a stock: it doesn't join the stock, with no line more printed; or it
 -- does, which it can only where each of its codes is the game's, and its line is printed, or its
 -- first bytes are. `sent` bytes were printed before.
 abbrev pub TakesIn : Shape → Stored → Stored → Table → ℕ → Option (List ℕ) → Option (List ℕ) → Result ℕ Fault → Type 0
-TakesIn board stock joined t sent old new result =
-    ((f : Fault) × (result ≡ Err f) × IsUnfitFile board stock t f × (old ≡ new))
-    ⊎ (Joins board stock joined t × PrintsLine (verified_line t) sent old new result)
+TakesIn board tables joined t sent old new result =
+    ((f : Fault) × (result ≡ Err f) × IsUnfitFile board tables t f × (old ≡ new))
+    ⊎ (Joins board tables joined t × PrintsLine (verified_line t) sent old new result)
 
 -- what follows from that: the fault, with no line more printed; or what comes next
 abbrev pub AfterTaking : Option (List ℕ) → Option (List ℕ) → Result (Unit {0}) Fault → (ℕ → Type 0) → Result ℕ Fault → Type 0
@@ -67,8 +67,8 @@ AfterTaking old new result next (Err refused) = (result ≡ Err refused) × Keep
 AfterTaking old new result next (Ok now) = next now
 
 abbrev pub AfterTable : Shape → Stored → ℕ → Option (List ℕ) → Option (List ℕ) → Result (Unit {0}) Fault → (Stored → ℕ → Option (List ℕ) → Type 0) → Table → Type 0
-AfterTable board stock sent old new result next t =
-    (joined : Stored) × (out : Option (List ℕ)) × (taken : Result ℕ Fault) × TakesIn board stock joined t sent old out taken
+AfterTable board tables sent old new result next t =
+    (joined : Stored) × (out : Option (List ℕ)) × (taken : Result ℕ Fault) × TakesIn board tables joined t sent old out taken
     × AfterTaking out new result (λ now. next joined now out) taken
 
 -- The pairs are gone through in order: at the turn of each the tables are let go that no pair from
@@ -76,10 +76,10 @@ AfterTable board stock sent old new result next t =
 -- and its table taken into the stock before the next. `sent` bytes were printed before, and `found`
 -- says whether there was a file before.
 unfoldable pub Verifies : Shape → Option Files → List ℕ → List Counts → Stored → Bool → ℕ → Option (List ℕ) → Option (List ℕ) → Result (Unit {0}) Fault → Type 0
-Verifies board files name [] stock found sent old new result = (result ≡ ended found) × Keeps old new
-Verifies board files name (c ∷ pairs) stock found sent old new result =
-    (near : Stored) × KeepsNear stock near c
-    × ((answer : Result (Option Table) KeptFault) × AnswersKept board files (name_of name c) c answer
+Verifies board files name [] tables found sent old new result = (result ≡ end_of found) × Keeps old new
+Verifies board files name (c ∷ pairs) tables found sent old new result =
+    (near : Stored) × RetainsNear tables near c
+    × ((answer : Result (Option Table) StoredFault) × AnswersStored board files (name_of name c) c answer
     × AfterFile c old new result (Verifies board files name pairs near found sent old new result)
     (AfterTable board near sent old new result (λ joined more out. Verifies board files name pairs joined true more out new result)) answer)
 
@@ -95,7 +95,7 @@ AnswersFound board files name old new result =
 abbrev pub AnswersFromOn : Shape → Option Files → List ℕ → Option (List ℕ) → Option (List ℕ) → Result (Unit {0}) Fault → Type 0
 AnswersFromOn board files name old new result =
     ((result ≡ Err fault.NoFolder) × Keeps old new)
-    ⊎ ((found : Option Files) × folder.Keeps files found × AnswersFound board found name old new result)
+    ⊎ ((found : Option Files) × folder.AreUnchanged files found × AnswersFound board found name old new result)
 
 -- what it answers on the board of a name, which is that of its files
 abbrev pub AnswersFrom : Option Shape → Option Files → List ℕ → Option (List ℕ) → Option (List ℕ) → Result (Unit {0}) Fault → Type 0

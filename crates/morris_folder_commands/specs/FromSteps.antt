@@ -5,12 +5,12 @@ use Rattle.morris_index.specs.Pairs.{Counts, all_pairs}
 use Rattle.morris_pairs.specs.Tables.{Table}
 use Rattle.morris_pairs.specs.declared.file_faults.ReadFault.TheVariants as read
 use Rattle.morris_files.specs.Files.{Files, HasFailed}
-use Rattle.morris_files.specs.Kept.{AnswersKept, failed_opening}
+use Rattle.morris_files.specs.Stored.{AnswersStored, failures_opening}
 use Rattle.morris_files.specs.Names.{name_of}
-use Rattle.morris_files.specs.declared.kept.KeptFault.{KeptFault}
-use Rattle.morris_files.specs.declared.kept.KeptFault.TheVariants as kept
+use Rattle.morris_files.specs.declared.stored.StoredFault.{StoredFault}
+use Rattle.morris_files.specs.declared.stored.StoredFault.TheVariants as stored
 use Rattle.morris_jobs.specs.declared.fault.Fault.{Fault}
-use Rattle.morris_folder_commands.specs.From.{fits, kept_fault}
+use Rattle.morris_folder_commands.specs.From.{fits, stored_fault}
 
 -- the pair at a place of all pairs, where the board has points for it
 abbrev pub place_is : Shape → ℕ → Option Counts → Type 0
@@ -35,18 +35,18 @@ StopsAt board end old new =
 
 -- What was read ahead of a file of this name: what its reading answers. It was opened, and a read
 -- that failed was one of a reader.
-abbrev pub IsReadAhead : {R : Type 0} → (R → ℕ) → Shape → Option Files → List ℕ → Counts → Result (Option Table) KeptFault → Type 0
+abbrev pub IsReadAhead : {R : Type 0} → (R → ℕ) → Shape → Option Files → List ℕ → Counts → Result (Option Table) StoredFault → Type 0
 IsReadAhead reading board files name c answer =
-    AnswersKept board files name c answer × (failed_opening answer ≡ 0)
-    × (answer ≡ Err (kept.Refused read.Read) → HasFailed reading)
+    AnswersStored board files name c answer × (failures_opening answer ≡ 0)
+    × (answer ≡ Err (stored.Refused read.Read) → HasFailed reading)
 
 -- what is known of the file of the pair at a place before its turn: nothing, or what was read ahead
-abbrev pub IsAhead : {R : Type 0} → (R → ℕ) → Shape → Option Files → List ℕ → ℕ → Option (Result (Option Table) KeptFault) → Type 0
+abbrev pub IsAhead : {R : Type 0} → (R → ℕ) → Shape → Option Files → List ℕ → ℕ → Option (Result (Option Table) StoredFault) → Type 0
 IsAhead reading board files name place None = ⊤
 IsAhead reading board files name place (Some answer) =
     (c : Counts) × place_is board place (Some c) × IsReadAhead reading board files (name_of name c) c answer
 
 -- what the reading of the file of a pair answers, with its fault
 abbrev pub AnswersFile : Shape → Option Files → List ℕ → Counts → Result (Option Table) Fault → Type 0
-AnswersFile board files name c (Ok found) = AnswersKept board files name c (Ok found)
-AnswersFile board files name c (Err f) = (refused : KeptFault) × (f ≡ kept_fault c refused) × AnswersKept board files name c (Err refused)
+AnswersFile board files name c (Ok found) = AnswersStored board files name c (Ok found)
+AnswersFile board files name c (Err f) = (refused : StoredFault) × (f ≡ stored_fault c refused) × AnswersStored board files name c (Err refused)

@@ -21,8 +21,8 @@ use Rattle.morris_files.specs.Digests.{digest_line}
 use Rattle.morris_files.specs.Names.{digests_name_of, name_of}
 use Rattle.morris_jobs.specs.declared.fault.Fault.{Fault}
 use Rattle.morris_jobs.specs.declared.fault.Fault.TheVariants as fault
-use Rattle.morris_jobs.specs.Orders.{IsUnbuiltAt}
-use Rattle.morris_jobs.specs.Answering.{OnBoard, OnOrder}
+use Rattle.morris_jobs.specs.Building.{IsUnbuiltAt}
+use Rattle.morris_jobs.specs.Answering.{OnBoard, OnBuildArgs}
 use Rattle.morris_jobs.specs.Faults.{PrintsLine}
 use Rattle.morris_jobs.specs.PairText.{read_pair_of}
 use Rattle.morris_folder_commands.specs.Entering.{IsBegun, IsEntered, IsShut, IsUnbegun}
@@ -51,7 +51,7 @@ place_of files out = record { files = files; out = out }
 
 -- no file is changed and nothing printed
 pub record StaysPut (before after : Place) : Type 0 where
-  pub files : folder.Keeps before.files after.files
+  pub files : folder.AreUnchanged before.files after.files
   pub out : Keeps before.out after.out
 
 -- a table of a pair in a layout, in which each code is the game's value and exact depth
@@ -66,8 +66,8 @@ IsFiled board name t old new = Goes old new (AreWhole (name_of name t.pair) (fil
 
 -- the fault that a file which isn't written is told by: want of memory, or that it isn't
 abbrev pub step_fault : Fault → Step → Fault
-step_fault told step.Memory = fault.Memory
-step_fault told _ = told
+step_fault reported step.Memory = fault.Memory
+step_fault reported _ = reported
 
 -- the file of a table isn't written: what stood under its name stands there, or the whole file
 abbrev pub IsUnfiled : Shape → List ℕ → Table → Option Files → Option Files → Fault → Type 0
@@ -106,29 +106,29 @@ digest_of board name t = digest_line name t.pair (sha256 (file_of board t))
 -- the files that were written before have these digests. At the end the list has the lines that
 -- were kept, and then these.
 unfoldable pub Fills : Shape → Layout → List ℕ → ℕ → List ℕ → List Counts → ℕ → List ℕ → Place → Place → Result (Unit {0}) Fault → Type 0
-Fills board l name blocks kept [] sent digests before after result = Ends name (kept ++ digests) before after result
-Fills board l name blocks kept (c ∷ pairs) sent digests before after result =
+Fills board l name blocks retained [] sent digests before after result = Ends name (retained ++ digests) before after result
+Fills board l name blocks retained (c ∷ pairs) sent digests before after result =
     ((refused : Fault) × (result ≡ Err refused) × IsUnbuiltAt board c blocks refused × StaysPut before after)
     ⊎ ((t : Table) × IsBuilt board l c t × ¬ IsBeyondCodes board c
     × ((next : Place) × (done : Result ℕ Fault) × IsDone board name t sent before next done
     × AfterDoing next after result
-    (λ now. Fills board l name blocks kept pairs now (digests ++ digest_of board name t) next after result) done))
+    (λ now. Fills board l name blocks retained pairs now (digests ++ digest_of board name t) next after result) done))
 
 -- ---- the answer
 
 -- What it answers once the list of digests has the lines alone that are kept: there is no room to
 -- begin, with nothing written; otherwise the pairs below are done, the pair's own the last.
 abbrev pub FillsFolder : Shape → Layout → List ℕ → Counts → ℕ → List ℕ → Place → Place → Result (Unit {0}) Fault → Type 0
-FillsFolder board l name pair blocks kept before after result =
-    ((result ≡ Err fault.Memory) × StaysPut before after) ⊎ Fills board l name blocks kept (below_of pair) 0 [] before after result
+FillsFolder board l name pair blocks retained before after result =
+    ((result ≡ Err fault.Memory) × StaysPut before after) ⊎ Fills board l name blocks retained (below_of pair) 0 [] before after result
 
 -- What it answers in a folder that is locked: the list of digests can't be had, or not be left with
 -- the lines of those files alone that aren't replaced; otherwise what it answers once it is.
 abbrev pub AnswersLocked : Shape → Layout → List ℕ → Counts → ℕ → Place → Place → Result (Unit {0}) Fault → Type 0
 AnswersLocked board l name pair blocks before after result =
     ((refused : Fault) × (result ≡ Err refused) × IsUnbegun name before.files after.files refused × Keeps before.out after.out)
-    ⊎ ((kept : List ℕ) × (begun : Place) × IsBegun name pair kept before.files begun.files × Keeps before.out begun.out
-    × FillsFolder board l name pair blocks kept begun after result)
+    ⊎ ((retained : List ℕ) × (begun : Place) × IsBegun name pair retained before.files begun.files × Keeps before.out begun.out
+    × FillsFolder board l name pair blocks retained begun after result)
 
 -- What it answers of a pair: the folder isn't made and locked, with nothing written; otherwise what
 -- it answers once it is, with the files that it had.
@@ -141,7 +141,7 @@ AnswersFolder board l name pair blocks before after result =
 -- name of the board is that of its files.
 abbrev pub AnswersIntoOn : Shape → Layout → List ℕ → List ℕ → ℕ → ℕ → Place → Place → Result (Unit {0}) Fault → Type 0
 AnswersIntoOn board l name text workers blocks before after result =
-    OnOrder board text workers blocks result (StaysPut before after) (λ pair. AnswersFolder board l name pair blocks before after result)
+    OnBuildArgs board text workers blocks result (StaysPut before after) (λ pair. AnswersFolder board l name pair blocks before after result)
 
 -- what it answers on the board of a name
 abbrev pub AnswersInto : Option Shape → Layout → List ℕ → List ℕ → ℕ → ℕ → Place → Place → Result (Unit {0}) Fault → Type 0

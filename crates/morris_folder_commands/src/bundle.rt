@@ -5,15 +5,15 @@ ghost use Rattle.morris_jobs.specs.BoardNames.{board_of};
 ghost use Rattle.morris_folder_commands.specs.Bundle.{AnswersBundle, AnswersBundleOn};
 ghost use Rattle.morris_jobs.specs.Inputs.{MayFail, input_of};
 
-use crate::from::{ended, take_in};
+use crate::from::{end_of, take_in};
 use morris_board::board::Board;
 use morris_board::streams::{Sink, Source};
+use morris_jobs::building::drop_unneeded;
+use morris_jobs::context::{Context, Parallelism};
 use morris_jobs::fault::Fault;
 use morris_jobs::on_board;
-use morris_jobs::orders::spare;
+use morris_jobs::progress::Progress;
 use morris_jobs::size::FolderSize;
-use morris_jobs::team::{Crew, Team};
-use morris_jobs::teller::Teller;
 use morris_pairs::reading::read_next;
 use morris_pairs::table_set::TableSet;
 use std::alloc::Global;
@@ -43,52 +43,59 @@ const MOST_FILES: u8 = 64;
 /// file was read; [`Fault::Memory`] where memory is refused; [`Fault::Write`], with all bytes that
 /// went out, at the first write to `output` that fails. Else [`Fault::NoFiles`] where the input was
 /// empty.
-pub fn verify_bundle<R: Threads + Sync, I: Source, O: Sink, T: Teller>(
+pub fn verify_bundle<R: Threads + Sync, I: Source, O: Sink, T: Progress>(
     rt: &R,
     alloc: Global,
     board: &str,
-    team: Team,
+    parallelism: Parallelism,
     input: &mut I,
     output: &mut O,
-    teller: &mut T,
+    progress: &mut T,
 ) -> Result<(), Fault>
     requires streams { MayFail (I.failures input.old) (O.failures output.old) }
     ensures answer { AnswersBundle (board_of board.now) (input_of (I.remaining input.old) (I.failures input.old)) (input_of (I.remaining input.new) (I.failures input.new))
         (O.contents output.old) (O.contents output.new) result }
     ensures unread { board_of board.now ≡ None → input.new ≡ input.old }
     ensures counted { CountsWrites (O.failures output.old) (O.failures output.new) result }
-    ensures told { T.becomes teller.old teller.new }
+    ensures reported { T.becomes progress.old progress.new }
 {
-    let crew = Crew { rt, alloc, team };
-    on_board!(board, bundle_on::<R, I, O, T>(crew, input, output, teller))
+    let context = Context {
+        rt,
+        alloc,
+        parallelism,
+    };
+    on_board!(
+        board,
+        bundle_on::<R, I, O, T>(context, input, output, progress)
+    )
 }
 
-fn bundle_on<B: Board, R: Threads + Sync, I: Source, O: Sink, T: Teller>(
-    crew: Crew<'_, R>,
+fn bundle_on<B: Board, R: Threads + Sync, I: Source, O: Sink, T: Progress>(
+    context: Context<'_, R>,
     input: &mut I,
     output: &mut O,
-    teller: &mut T,
+    progress: &mut T,
 ) -> Result<(), Fault>
     requires streams { MayFail (I.failures input.old) (O.failures output.old) }
     ensures answer { AnswersBundleOn B.shape (input_of (I.remaining input.old) (I.failures input.old)) (input_of (I.remaining input.new) (I.failures input.new))
         (O.contents output.old) (O.contents output.new) result }
     ensures counted { CountsWrites (O.failures output.old) (O.failures output.new) result }
-    ensures told { T.becomes teller.old teller.new }
+    ensures reported { T.becomes progress.old progress.new }
 {
-    let mut stock = TableSet::new(crew.alloc)?;
+    let mut tables = TableSet::new(context.alloc)?;
     let (mut sent, mut found) = (0, false);
     for place in 0..=MOST_FILES {
-        let Some(raw) = read_next::<B, I>(crew.alloc, input)? else {
-            return ended(found);
+        let Some(raw) = read_next::<B, I>(context.alloc, input)? else {
+            return end_of(found);
         };
         if place == MOST_FILES {
             return Err(Fault::TooMany);
         }
         let (pair, entries) = (raw.pair(), raw.len());
         // What was told before isn't told again.
-        teller.announce_size(FolderSize::NONE.with(pair, entries).size);
-        spare(&mut stock, false, pair);
-        sent = take_in(crew, &mut stock, raw, sent, output, teller)?;
+        progress.start_with_size(FolderSize::NONE.with(pair, entries).size);
+        drop_unneeded(&mut tables, false, pair);
+        sent = take_in(context, &mut tables, raw, sent, output, progress)?;
         found = true;
     }
     unreachable!()

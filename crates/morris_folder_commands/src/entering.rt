@@ -9,10 +9,10 @@ ghost use Rattle.morris_folder_commands.specs.Entering.{BeginsList, IsEntered, I
 
 use morris_board::board::Geometry;
 use morris_board::streams::Failed;
-use morris_files::digests::write_list;
+use morris_files::checksum_list::write_list;
 use morris_files::folder::Folder;
 use morris_files::names::digests_name;
-use morris_files::old_list::{ListFault, kept_lines};
+use morris_files::old_checksums::{ListFault, retained_lines};
 use morris_files::table_file::Written;
 use morris_files::whole::Step;
 use morris_index::pair::Pair;
@@ -63,19 +63,19 @@ pub(crate) fn begin_list<B: Geometry, F: Folder>(
 ) -> Result<Vec<u8>, Fault>
     requires failures { F.failures folder.old < 2 ^ 64 - 2 }
     requires locked { F.locked folder.old ≡ true }
-    ensures begun { MatchResult result (λ kept. BeginsList board.now replaced (F.files folder.old) (F.files folder.new) (Ok kept.items))
+    ensures begun { MatchResult result (λ retained. BeginsList board.now replaced (F.files folder.old) (F.files folder.new) (Ok retained.items))
         (IsUnbegun board.now (F.files folder.old) (F.files folder.new)) }
     ensures locked { F.locked folder.new ≡ true }
     ensures caused { HasCause F.Reader.failures F.Writer.failures (Some false) (MayBeLong board.now (F.files folder.old))
         (F.failures folder.old) (F.failures folder.new) result }
     ensures unwritten { IfErr result (λ refused. is_write refused ≡ false) }
 {
-    let kept = match kept_lines(alloc, folder, board, replaced) {
-        Ok(kept) => kept,
+    let retained = match retained_lines(alloc, folder, board, replaced) {
+        Ok(retained) => retained,
         Err(refused) => return Err(list_fault(refused)),
     };
-    match leave_list::<B, F>(alloc, board, kept.as_slice(), folder) {
-        Ok(()) => Ok(kept),
+    match leave_list::<B, F>(alloc, board, retained.as_slice(), folder) {
+        Ok(()) => Ok(retained),
         Err(refused) => Err(refused),
     }
 }
@@ -98,20 +98,20 @@ fn list_fault(refused: ListFault) -> Fault
 fn leave_list<B: Geometry, F: Folder>(
     alloc: Global,
     board: &str,
-    kept: &[u8],
+    retained: &[u8],
     folder: &mut F,
 ) -> Result<(), Fault>
     requires { F.failures folder.old < 2 ^ 64 - 2 }
-    ensures left { MatchResult result (λ _. Goes (F.files folder.old) (F.files folder.new) (IsLeft board.now kept.now)) (IsUnbegun board.now (F.files folder.old) (F.files folder.new)) }
+    ensures left { MatchResult result (λ _. Goes (F.files folder.old) (F.files folder.new) (IsLeft board.now retained.now)) (IsUnbegun board.now (F.files folder.old) (F.files folder.new)) }
     ensures held { F.locked folder.new ≡ F.locked folder.old }
     ensures caused { HasCause F.Reader.failures F.Writer.failures (Some false) ⊥ (F.failures folder.old) (F.failures folder.new) result }
     ensures unwritten { IfErr result (λ refused. is_write refused ≡ false) }
 {
-    if kept.is_empty() {
+    if retained.is_empty() {
         return remove_list(alloc, board, folder);
     }
     let none: Vec<Written<B>> = Vec::new(alloc);
-    match write_list(alloc, folder, board, kept, none.as_slice()) {
+    match write_list(alloc, folder, board, retained, none.as_slice()) {
         Ok(()) => Ok(()),
         Err(fault) => Err(step_fault(Fault::Digests, fault.step)),
     }

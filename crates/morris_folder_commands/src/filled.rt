@@ -27,7 +27,7 @@ pub(crate) struct Filled<B: Geometry> {
 }
 
 impl<B: Geometry> Filled<B> {
-    ghost use Rattle.morris_folder_commands.specs.Filling.{Tells};
+    ghost use Rattle.morris_folder_commands.specs.Filling.{PrintsFile};
 
     /// No file is written, and none waits.
     pub(crate) fn new(alloc: Global) -> Result<Filled<B>, AllocError>
@@ -44,7 +44,7 @@ impl<B: Geometry> Filled<B> {
     }
 
     /// Tells of a file that was written.
-    pub(crate) fn tell<O: Sink>(
+    pub(crate) fn print_line<O: Sink>(
         &mut self,
         file: Result<Written<B>, Fault>,
         output: &mut O,
@@ -53,7 +53,7 @@ impl<B: Geometry> Filled<B> {
         requires output { O.failures output.old < 2 ^ 64 - 1 }
         requires short { IfOk file (λ w. length (filed_text w.pair w.entries w.bytes w.digest) ≤ 2 ^ 10) }
         requires unwritten { IfErr file (λ refused. is_write refused ≡ false) }
-        ensures told { Tells file self.old.written.items self.new.written.items self.old.sent self.new.sent (O.contents output.old) (O.contents output.new) result }
+        ensures reported { PrintsFile file self.old.written.items self.new.written.items self.old.sent self.new.sent (O.contents output.old) (O.contents output.new) result }
         ensures counted { CountsWrites (O.failures output.old) (O.failures output.new) result }
         ensures waiting { self.new.waiting ≡ self.old.waiting }
         ensures count { OnOk result (vec_len self.new.written ≡ vec_len self.old.written + 1) }

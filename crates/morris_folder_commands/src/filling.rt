@@ -12,9 +12,9 @@ ghost use Rattle.morris_files.specs.Names.{name_of};
 ghost use Rattle.morris_files.specs.Parts.{HasNames, IsPaired};
 ghost use Rattle.morris_files.specs.Whole.{IsBegun};
 ghost use Rattle.morris_jobs.specs.Faults.{CountsWrites, is_write};
-ghost use Rattle.morris_jobs.specs.Orders.{IsUnbuiltAt};
+ghost use Rattle.morris_jobs.specs.Building.{IsUnbuiltAt};
 ghost use Rattle.morris_folder_commands.specs.Causes.{HasCause};
-ghost use Rattle.morris_folder_commands.specs.Filling.{GoesOn, IsThere, KeepsTable, rest_of};
+ghost use Rattle.morris_folder_commands.specs.Filling.{GoesOn, IsThere, StoresTable, rest_of};
 ghost use Rattle.morris_folder_commands.specs.Into.{IsUnfiled, filed_text, place_of, step_fault};
 
 use crate::entering::step_fault;
@@ -25,14 +25,14 @@ use morris_files::folder::Folder;
 use morris_files::table_file::{TablePart, Written, begin_table_file, end_table_file};
 use morris_files::whole::{Contents, NotWhole};
 use morris_index::pair::Pair;
+use morris_jobs::building::build_over;
+use morris_jobs::context::Context;
 use morris_jobs::fault::Fault;
-use morris_jobs::orders::build_over;
-use morris_jobs::team::Crew;
-use morris_jobs::teller::Teller;
+use morris_jobs::progress::Progress;
 use morris_pairs::exact::Exact;
 use morris_pairs::layout::Layout;
 use morris_pairs::table_set::TableSet;
-use morris_workers::{Unwatched, Watch};
+use morris_workers::{NoProgress, Watch};
 use std::alloc::Global;
 use std::sync::Wait;
 use std::thread;
@@ -41,7 +41,7 @@ use std::thread::Threads;
 /// The tables that go into a folder, and who builds them.
 #[derive_where(Clone, Copy)]
 pub(crate) struct Filling<'a, B: Geometry, R> {
-    pub(crate) crew: Crew<'a, R>,
+    pub(crate) context: Context<'a, R>,
     // The name of the board.
     pub(crate) board: &'a str,
     // The layout of the tables.
@@ -51,18 +51,18 @@ pub(crate) struct Filling<'a, B: Geometry, R> {
 }
 
 /// The table of a pair, which a set of tables has.
-fn table_there<B: Geometry>(stock: &TableSet<B>, pair: Pair<B>) -> &Exact<B>
-    requires { is_some (table_on stock.now pair) ≡ true }
-    ensures { table_on stock.now pair ≡ Some result.now }
+fn table_there<B: Geometry>(tables: &TableSet<B>, pair: Pair<B>) -> &Exact<B>
+    requires { is_some (table_on tables.now pair) ≡ true }
+    ensures { table_on tables.now pair ≡ Some result.now }
 {
-    let Some(table) = stock.get(pair) else {
+    let Some(table) = tables.get(pair) else {
         unreachable!()
     };
     table
 }
 
 /// The fault of the file of a table that isn't written.
-fn unwritten<B: Geometry>(table: &Exact<B>, fault: NotWhole) -> Fault
+fn write_fault<B: Geometry>(table: &Exact<B>, fault: NotWhole) -> Fault
     ensures { result ≡ step_fault (Fault.Unwritten table.now.pair.greater table.now.pair.lesser) fault.step }
 {
     let pair = table.pair();
@@ -89,7 +89,7 @@ fn begin_file<B: Geometry, F: Folder>(
 {
     match begin_table_file(alloc, folder, board, table) {
         Ok(part) => Ok(part),
-        Err(fault) => Err(unwritten(table, fault)),
+        Err(fault) => Err(write_fault(table, fault)),
     }
 }
 
@@ -105,10 +105,10 @@ fn end_file<B: Geometry, F: Folder>(
     requires paired { IsPaired part }
     requires unwritten { IfErr written (λ _. 0 < F.Writer.failures part.part.writer) }
     requires digest { IfOk written (λ digest. digest ≡ sha256 (file_of B.shape table.now)) }
-    ensures kept { (board : List ℕ) (files : Option Files) (start : F.Writer) → HasNames part (name_of board table.now.pair)
+    ensures unchanged { (board : List ℕ) (files : Option Files) (start : F.Writer) → HasNames part (name_of board table.now.pair)
         → IsBegun F.Writer.contents files (F.files folder.old) (name_of board table.now.pair) start
         → OnOk written (Appends (F.Writer.contents start) (F.Writer.contents part.part.writer) (file_of B.shape table.now))
-        → KeepsTable B.shape board table.now files (F.files folder.new) result }
+        → StoresTable B.shape board table.now files (F.files folder.new) result }
     ensures short { IfOk result (λ file. length (filed_text file.pair file.entries file.bytes file.digest) ≤ 2 ^ 10) }
     ensures locked { F.locked folder.new ≡ true }
     ensures caused { HasCause F.Reader.failures F.Writer.failures (Some false) ⊥ (F.failures folder.old) (F.failures folder.new) result }
@@ -116,12 +116,12 @@ fn end_file<B: Geometry, F: Folder>(
 {
     match end_table_file(folder, table, part, written) {
         Ok(written) => Ok(written),
-        Err(fault) => Err(unwritten(table, fault)),
+        Err(fault) => Err(write_fault(table, fault)),
     }
 }
 
 /// Writes the file of a table into a folder.
-fn keep_table<B: Geometry, F: Folder, W: Watch>(
+fn store_table<B: Geometry, F: Folder, W: Watch>(
     alloc: Global,
     board: &str,
     table: &Exact<B>,
@@ -130,12 +130,12 @@ fn keep_table<B: Geometry, F: Folder, W: Watch>(
 ) -> Result<Written<B>, Fault>
     requires failures { F.failures folder.old < 2 ^ 64 - 2 }
     requires locked { F.locked folder.old ≡ true }
-    ensures kept { KeepsTable B.shape board.now table.now (F.files folder.old) (F.files folder.new) result }
+    ensures unchanged { StoresTable B.shape board.now table.now (F.files folder.old) (F.files folder.new) result }
     ensures short { IfOk result (λ file. length (filed_text file.pair file.entries file.bytes file.digest) ≤ 2 ^ 10) }
     ensures locked { F.locked folder.new ≡ true }
     ensures caused { HasCause F.Reader.failures F.Writer.failures (Some false) ⊥ (F.failures folder.old) (F.failures folder.new) result }
     ensures unwritten { IfErr result (λ refused. is_write refused ≡ false) }
-    ensures told { W.becomes watch.old watch.new }
+    ensures reported { W.becomes watch.old watch.new }
 {
     let mut part = begin_file(alloc, board, table, folder)?;
     let written = table.write_to(&mut part.part.writer, watch);
@@ -146,7 +146,7 @@ fn keep_table<B: Geometry, F: Folder, W: Watch>(
 pub(crate) fn file_waiting<B: Geometry, R, F: Folder, O: Sink, W: Watch>(
     filling: &Filling<'_, B, R>,
     filled: &mut Filled<B>,
-    stock: &TableSet<B>,
+    tables: &TableSet<B>,
     folder: &mut F,
     output: &mut O,
     watch: &mut W,
@@ -154,9 +154,9 @@ pub(crate) fn file_waiting<B: Geometry, R, F: Folder, O: Sink, W: Watch>(
     requires folder { F.failures folder.old < 2 ^ 64 - 2 }
     requires locked { F.locked folder.old ≡ true }
     requires output { O.failures output.old < 2 ^ 64 - 1 }
-    requires there { IfSome filled.old.waiting (IsThere B.shape filling.now.layout stock.now) }
+    requires there { IfSome filled.old.waiting (IsThere B.shape filling.now.layout tables.now) }
     requires room { vec_len filled.old.written + length (option_to_list filled.old.waiting) ≤ 28 }
-    ensures filled { (pairs : List Counts) → GoesOn B.shape filling.now.layout filling.now.board.now filling.now.crew.team.blocks
+    ensures filled { (pairs : List Counts) → GoesOn B.shape filling.now.layout filling.now.board.now filling.now.context.parallelism.blocks
         (rest_of filling.now.board.now filled.old.written.items filled.old.sent filled.old.waiting pairs (place_of (F.files folder.old) (O.contents output.old)))
         (rest_of filling.now.board.now filled.new.written.items filled.new.sent filled.new.waiting pairs (place_of (F.files folder.new) (O.contents output.new))) result }
     ensures none { OnOk result (filled.new.waiting ≡ None) }
@@ -164,70 +164,90 @@ pub(crate) fn file_waiting<B: Geometry, R, F: Folder, O: Sink, W: Watch>(
     ensures locked { F.locked folder.new ≡ true }
     ensures caused { HasCause F.Reader.failures F.Writer.failures (Some false) ⊥ (F.failures folder.old) (F.failures folder.new) result }
     ensures counted { CountsWrites (O.failures output.old) (O.failures output.new) result }
-    ensures told { W.becomes watch.old watch.new }
+    ensures reported { W.becomes watch.old watch.new }
 {
     let Some(pair) = filled.waiting.take() else {
         return Ok(());
     };
-    let table = table_there(stock, pair);
-    let file = keep_table(filling.crew.alloc, filling.board, table, folder, watch);
-    filled.tell(file, output)
+    let table = table_there(tables, pair);
+    let file = store_table(filling.context.alloc, filling.board, table, folder, watch);
+    filled.print_line(file, output)
 }
 
 /// Builds the table of a pair, while another thread gives one that is there to a writer. Where no
 /// thread can be started, this one does so afterwards.
-fn build_writing<B: Board, R: Threads + Wait + Sync, S: Sink + Send, T: Teller>(
+fn build_writing<B: Board, R: Threads + Wait + Sync, S: Sink + Send, T: Progress>(
     filling: &Filling<'_, B, R>,
-    stock: &TableSet<B>,
+    tables: &TableSet<B>,
     next: Pair<B>,
     table: &Exact<B>,
     writer: &mut S,
-    teller: &mut T,
+    progress: &mut T,
 ) -> (Result<[u8; 32], Failed>, Result<Exact<B>, Fault>)
-    requires ready { first_missing stock.now next ≡ None }
+    requires ready { first_missing tables.now next ≡ None }
     requires writer { S.failures writer.old < 2 ^ 64 - 1 }
     ensures whole { OnOk result.0 (Appends (S.contents writer.old) (S.contents writer.new) (file_of B.shape table.now)) }
     ensures digest { IfOk result.0 (λ digest. digest ≡ sha256 (file_of B.shape table.now)) }
     ensures counted { CountsFailure (S.failures writer.old) (S.failures writer.new) result.0 }
     ensures built { IfOk result.1 (IsBuilt B.shape filling.now.layout next) }
-    ensures unbuilt { IfErr result.1 (IsUnbuiltAt B.shape next filling.now.crew.team.blocks) }
-    ensures told { T.becomes teller.old teller.new }
+    ensures unbuilt { IfErr result.1 (IsUnbuiltAt B.shape next filling.now.context.parallelism.blocks) }
+    ensures reported { T.becomes progress.old progress.new }
 {
-    let Filling { crew, layout, .. } = *filling;
-    let Crew { rt, alloc, team } = crew;
+    let Filling {
+        context,
+        layout,
+        ..
+    } = *filling;
+    let Context {
+        rt,
+        alloc,
+        parallelism,
+    } = context;
     let mut aside = || -> Result<[u8; 32], Failed>
         requires { S.failures writer.now < 2 ^ 64 - 1 }
         ensures { OnOk result (Appends (S.contents writer.entry.now) (S.contents writer.exit.now) (file_of B.shape table.entry.now))
             × IfOk result (λ digest. digest ≡ sha256 (file_of B.shape table.entry.now))
             × CountsFailure (S.failures writer.entry.now) (S.failures writer.exit.now) result }
-    { table.write_to::<S, Unwatched>(writer, &mut Unwatched) };
+    { table.write_to::<S, NoProgress>(writer, &mut NoProgress) };
     let mut here = || -> Result<Exact<B>, Fault>
-        requires { first_missing stock.now next ≡ None }
-        ensures { IfOk result (IsBuilt B.shape layout next) × IfErr result (IsUnbuiltAt B.shape next team.blocks) × T.becomes teller.entry.now teller.exit.now }
-    { build_over::<B, R, T>(Crew { rt, alloc, team }, stock, layout, next, teller) };
+        requires { first_missing tables.now next ≡ None }
+        ensures { IfOk result (IsBuilt B.shape layout next) × IfErr result (IsUnbuiltAt B.shape next parallelism.blocks) × T.becomes progress.entry.now progress.exit.now }
+    {
+        build_over::<B, R, T>(
+            Context {
+                rt,
+                alloc,
+                parallelism,
+            },
+            tables,
+            layout,
+            next,
+            progress,
+        )
+    };
     thread::join_mut(rt, &mut aside, &mut here)
 }
 
 /// Builds the table of a pair, and meanwhile writes the file that waits, where one does, and then
 /// tells of it.
-pub(crate) fn build_beside<B: Board, R: Threads + Wait + Sync, F: Folder, O: Sink, T: Teller>(
+pub(crate) fn build_beside<B: Board, R: Threads + Wait + Sync, F: Folder, O: Sink, T: Progress>(
     filling: &Filling<'_, B, R>,
     filled: &mut Filled<B>,
-    stock: &TableSet<B>,
+    tables: &TableSet<B>,
     next: Pair<B>,
     folder: &mut F,
     output: &mut O,
-    teller: &mut T,
+    progress: &mut T,
 ) -> Result<Exact<B>, Fault>
 where
     F::Writer: Send,
     requires folder { F.failures folder.old < 2 ^ 64 - 2 }
     requires locked { F.locked folder.old ≡ true }
     requires output { O.failures output.old < 2 ^ 64 - 1 }
-    requires there { IfSome filled.old.waiting (IsThere B.shape filling.now.layout stock.now) }
+    requires there { IfSome filled.old.waiting (IsThere B.shape filling.now.layout tables.now) }
     requires room { vec_len filled.old.written + length (option_to_list filled.old.waiting) ≤ 28 }
-    requires ready { first_missing stock.now next ≡ None }
-    ensures filled { (pairs : List Counts) → GoesOn B.shape filling.now.layout filling.now.board.now filling.now.crew.team.blocks
+    requires ready { first_missing tables.now next ≡ None }
+    ensures filled { (pairs : List Counts) → GoesOn B.shape filling.now.layout filling.now.board.now filling.now.context.parallelism.blocks
         (rest_of filling.now.board.now filled.old.written.items filled.old.sent filled.old.waiting (next ∷ pairs) (place_of (F.files folder.old) (O.contents output.old)))
         (rest_of filling.now.board.now filled.new.written.items filled.new.sent filled.new.waiting (next ∷ pairs) (place_of (F.files folder.new) (O.contents output.new))) result }
     ensures built { IfOk result (IsBuilt B.shape filling.now.layout next) }
@@ -236,15 +256,22 @@ where
     ensures locked { F.locked folder.new ≡ true }
     ensures caused { HasCause F.Reader.failures F.Writer.failures (Some false) ⊥ (F.failures folder.old) (F.failures folder.new) result }
     ensures counted { CountsWrites (O.failures output.old) (O.failures output.new) result }
-    ensures told { T.becomes teller.old teller.new }
+    ensures reported { T.becomes progress.old progress.new }
 {
     let Some(waiting) = filled.waiting.take() else {
-        return build_over(filling.crew, stock, filling.layout, next, teller);
+        return build_over(filling.context, tables, filling.layout, next, progress);
     };
-    let last = table_there(stock, waiting);
-    let mut part = begin_file(filling.crew.alloc, filling.board, last, folder)?;
-    let (written, table) = build_writing(filling, stock, next, last, &mut part.part.writer, teller);
+    let last = table_there(tables, waiting);
+    let mut part = begin_file(filling.context.alloc, filling.board, last, folder)?;
+    let (written, table) = build_writing(
+        filling,
+        tables,
+        next,
+        last,
+        &mut part.part.writer,
+        progress,
+    );
     let file = end_file(last, part, written, folder);
-    filled.tell(file, output)?;
+    filled.print_line(file, output)?;
     table
 }

@@ -1,6 +1,6 @@
 //! The command `build` into a folder.
 ghost use Rattle.std.specs.Prelude.{◌≡◌, ℕ, ◌-◌, ◌^◌, ◌<◌, ◌++◌, List, [], None, Option, Some, true, false, Err, IfErr, MatchResult};
-ghost use Rattle.morris_jobs.specs.Orders.{layout_asked};
+ghost use Rattle.morris_jobs.specs.Building.{layout_for};
 ghost use Rattle.morris_jobs.specs.Faults.{CountsWrites, is_write};
 ghost use Rattle.morris_folder_commands.specs.Causes.{HasCause, MayBeLong};
 ghost use Rattle.morris_folder_commands.specs.Filling.{IsFilledBut};
@@ -13,17 +13,17 @@ use crate::filled::Filled;
 use crate::filling::{Filling, build_beside, file_waiting};
 use morris_board::board::{Board, Geometry};
 use morris_board::streams::Sink;
-use morris_files::digests::write_list;
+use morris_files::checksum_list::write_list;
 use morris_files::folder::Folder;
 use morris_files::table_file::Written;
 use morris_index::pair::Pair;
+use morris_jobs::building::{BuildArgs, drop_unneeded, layout_of};
+use morris_jobs::context::{Context, Parallelism};
 use morris_jobs::fault::Fault;
 use morris_jobs::on_board;
-use morris_jobs::orders::{Order, layout_of, spare};
 use morris_jobs::pairs::read_pair;
-use morris_jobs::size::Way;
-use morris_jobs::team::{Crew, Team};
-use morris_jobs::teller::Teller;
+use morris_jobs::progress::Progress;
+use morris_jobs::size::Plan;
 use morris_pairs::layout::Layout;
 use morris_pairs::table_set::TableSet;
 use std::alloc::Global;
@@ -53,7 +53,7 @@ use std::thread::Threads;
 /// [`Fault::Write`], with all bytes that went out, at the first write to `output` that fails; at
 /// last [`Fault::Digests`] where the file of the digests can't be written; or [`Fault::Memory`]
 /// where memory is refused. The files that were written before stay.
-pub fn build_into<R: Threads + Wait + Sync, F: Folder, O: Sink, T: Teller>(
+pub fn build_into<R: Threads + Wait + Sync, F: Folder, O: Sink, T: Progress>(
     rt: &R,
     alloc: Global,
     board: &str,
@@ -63,21 +63,21 @@ pub fn build_into<R: Threads + Wait + Sync, F: Folder, O: Sink, T: Teller>(
     classes: bool,
     folder: &mut F,
     output: &mut O,
-    teller: &mut T,
+    progress: &mut T,
 ) -> Result<(), Fault>
 where
     F::Writer: Send,
     requires folder { F.failures folder.old < 2 ^ 64 - 2 }
     requires output { O.failures output.old < 2 ^ 64 - 1 }
-    ensures answer { AnswersInto (board_of board.now) (layout_asked classes) board.now pair.now workers blocks
+    ensures answer { AnswersInto (board_of board.now) (layout_for classes) board.now pair.now workers blocks
         (place_of (F.files folder.old) (O.contents output.old)) (place_of (F.files folder.new) (O.contents output.new)) result }
     ensures untouched { ¬ IsAsked (board_of board.now) pair.now workers blocks → folder.new ≡ folder.old }
     ensures caused { HasCause F.Reader.failures F.Writer.failures (F.taken folder.old) (MayBeLong board.now (F.files folder.old))
         (F.failures folder.old) (F.failures folder.new) result }
     ensures counted { CountsWrites (O.failures output.old) (O.failures output.new) result }
-    ensures told { T.becomes teller.old teller.new }
+    ensures reported { T.becomes progress.old progress.new }
 {
-    let order = Order {
+    let build_args = BuildArgs {
         board,
         pair,
         workers,
@@ -86,18 +86,18 @@ where
     let layout = layout_of(classes);
     on_board!(
         board,
-        into_on::<R, F, O, T>(rt, alloc, order, layout, folder, output, teller)
+        into_on::<R, F, O, T>(rt, alloc, build_args, layout, folder, output, progress)
     )
 }
 
-fn into_on<B: Board, R: Threads + Wait + Sync, F: Folder, O: Sink, T: Teller>(
+fn into_on<B: Board, R: Threads + Wait + Sync, F: Folder, O: Sink, T: Progress>(
     rt: &R,
     alloc: Global,
-    order: Order<'_>,
+    build_args: BuildArgs<'_>,
     layout: Layout,
     folder: &mut F,
     output: &mut O,
-    teller: &mut T,
+    progress: &mut T,
 ) -> Result<(), Fault>
 where
     F::Writer: Send,
@@ -105,58 +105,62 @@ where
     requires output { O.failures output.old < 2 ^ 64 - 1 }
     // The caller's proof learns here that the board has as many points as its shape says.
     ensures points { B.shape.points ≡ B.POINTS }
-    ensures answer { AnswersIntoOn B.shape layout order.entry.board.now order.entry.pair.now order.entry.workers order.entry.blocks
+    ensures answer { AnswersIntoOn B.shape layout build_args.entry.board.now build_args.entry.pair.now build_args.entry.workers build_args.entry.blocks
         (place_of (F.files folder.old) (O.contents output.old)) (place_of (F.files folder.new) (O.contents output.new)) result }
-    ensures untouched { ¬ IsAsked (Some B.shape) order.entry.pair.now order.entry.workers order.entry.blocks → folder.new ≡ folder.old }
-    ensures caused { HasCause F.Reader.failures F.Writer.failures (F.taken folder.old) (MayBeLong order.entry.board.now (F.files folder.old))
+    ensures untouched { ¬ IsAsked (Some B.shape) build_args.entry.pair.now build_args.entry.workers build_args.entry.blocks → folder.new ≡ folder.old }
+    ensures caused { HasCause F.Reader.failures F.Writer.failures (F.taken folder.old) (MayBeLong build_args.entry.board.now (F.files folder.old))
         (F.failures folder.old) (F.failures folder.new) result }
     ensures counted { CountsWrites (O.failures output.old) (O.failures output.new) result }
-    ensures told { T.becomes teller.old teller.new }
+    ensures reported { T.becomes progress.old progress.new }
 {
-    let pair = read_pair::<B>(order.pair)?;
-    let team = Team::new(order.workers, order.blocks)?;
+    let pair = read_pair::<B>(build_args.pair)?;
+    let parallelism = Parallelism::new(build_args.workers, build_args.blocks)?;
     let filling = Filling {
-        crew: Crew { rt, alloc, team },
-        board: order.board,
+        context: Context {
+            rt,
+            alloc,
+            parallelism,
+        },
+        board: build_args.board,
         layout,
         pair,
     };
-    into_folder(&filling, folder, output, teller)
+    into_folder(&filling, folder, output, progress)
 }
 
 /// Fills a folder, which is made where there is none and locked, and writes the file of the
 /// digests.
-fn into_folder<B: Board, R: Threads + Wait + Sync, F: Folder, O: Sink, T: Teller>(
+fn into_folder<B: Board, R: Threads + Wait + Sync, F: Folder, O: Sink, T: Progress>(
     filling: &Filling<'_, B, R>,
     folder: &mut F,
     output: &mut O,
-    teller: &mut T,
+    progress: &mut T,
 ) -> Result<(), Fault>
 where
     F::Writer: Send,
     requires folder { F.failures folder.old < 2 ^ 64 - 2 }
     requires output { O.failures output.old < 2 ^ 64 - 1 }
     ensures points { B.shape.points ≡ B.POINTS }
-    ensures answer { AnswersFolder B.shape filling.now.layout filling.now.board.now filling.now.pair filling.now.crew.team.blocks
+    ensures answer { AnswersFolder B.shape filling.now.layout filling.now.board.now filling.now.pair filling.now.context.parallelism.blocks
         (place_of (F.files folder.old) (O.contents output.old)) (place_of (F.files folder.new) (O.contents output.new)) result }
     ensures caused { HasCause F.Reader.failures F.Writer.failures (F.taken folder.old) (MayBeLong filling.now.board.now (F.files folder.old))
         (F.failures folder.old) (F.failures folder.new) result }
     ensures counted { CountsWrites (O.failures output.old) (O.failures output.new) result }
-    ensures told { T.becomes teller.old teller.new }
+    ensures reported { T.becomes progress.old progress.new }
 {
     enter(folder)?;
-    let kept = begin_list(filling.crew.alloc, filling.board, filling.pair, folder)?;
-    fill_locked(filling, kept.as_slice(), folder, output, teller)
+    let unchanged = begin_list(filling.context.alloc, filling.board, filling.pair, folder)?;
+    fill_locked(filling, unchanged.as_slice(), folder, output, progress)
 }
 
 /// Fills a folder that is locked, and writes the file of the digests, which begins with lines that
 /// were kept.
-fn fill_locked<B: Board, R: Threads + Wait + Sync, F: Folder, O: Sink, T: Teller>(
+fn fill_locked<B: Board, R: Threads + Wait + Sync, F: Folder, O: Sink, T: Progress>(
     filling: &Filling<'_, B, R>,
-    kept: &[u8],
+    unchanged: &[u8],
     folder: &mut F,
     output: &mut O,
-    teller: &mut T,
+    progress: &mut T,
 ) -> Result<(), Fault>
 where
     F::Writer: Send,
@@ -164,17 +168,17 @@ where
     requires locked { F.locked folder.old ≡ true }
     requires output { O.failures output.old < 2 ^ 64 - 1 }
     ensures points { B.shape.points ≡ B.POINTS }
-    ensures filled { FillsFolder B.shape filling.now.layout filling.now.board.now filling.now.pair filling.now.crew.team.blocks kept.now
+    ensures filled { FillsFolder B.shape filling.now.layout filling.now.board.now filling.now.pair filling.now.context.parallelism.blocks unchanged.now
         (place_of (F.files folder.old) (O.contents output.old)) (place_of (F.files folder.new) (O.contents output.new)) result }
     ensures caused { HasCause F.Reader.failures F.Writer.failures (Some false) ⊥ (F.failures folder.old) (F.failures folder.new) result }
     ensures counted { CountsWrites (O.failures output.old) (O.failures output.new) result }
-    ensures told { T.becomes teller.old teller.new }
+    ensures reported { T.becomes progress.old progress.new }
 {
-    let written = fill(filling, folder, output, teller)?;
+    let written = fill(filling, folder, output, progress)?;
     end(
-        filling.crew.alloc,
+        filling.context.alloc,
         filling.board,
-        kept,
+        unchanged,
         written.as_slice(),
         folder,
     )
@@ -182,11 +186,11 @@ where
 
 /// The tables of all pairs below a pair, its own among them, into a folder that is there; the
 /// answer tells of their files.
-fn fill<B: Board, R: Threads + Wait + Sync, F: Folder, O: Sink, T: Teller>(
+fn fill<B: Board, R: Threads + Wait + Sync, F: Folder, O: Sink, T: Progress>(
     filling: &Filling<'_, B, R>,
     folder: &mut F,
     output: &mut O,
-    teller: &mut T,
+    progress: &mut T,
 ) -> Result<Vec<Written<B>>, Fault>
 where
     F::Writer: Send,
@@ -194,36 +198,43 @@ where
     requires locked { F.locked folder.old ≡ true }
     requires output { O.failures output.old < 2 ^ 64 - 1 }
     ensures points { B.shape.points ≡ B.POINTS }
-    ensures filled { (kept : List ℕ) → MatchResult result
-        (λ written. IsFilledBut B.shape filling.now.layout filling.now.board.now filling.now.pair filling.now.crew.team.blocks kept
+    ensures filled { (unchanged : List ℕ) → MatchResult result
+        (λ written. IsFilledBut B.shape filling.now.layout filling.now.board.now filling.now.pair filling.now.context.parallelism.blocks unchanged
         (place_of (F.files folder.old) (O.contents output.old)) (place_of (F.files folder.new) (O.contents output.new))
         (digest_lines filling.now.board.now (λ w. w.pair) (λ w. w.digest) written.items))
-        (λ refused. FillsFolder B.shape filling.now.layout filling.now.board.now filling.now.pair filling.now.crew.team.blocks kept
+        (λ refused. FillsFolder B.shape filling.now.layout filling.now.board.now filling.now.pair filling.now.context.parallelism.blocks unchanged
         (place_of (F.files folder.old) (O.contents output.old)) (place_of (F.files folder.new) (O.contents output.new)) (Err refused)) }
     ensures locked { F.locked folder.new ≡ true }
     ensures caused { HasCause F.Reader.failures F.Writer.failures (Some false) ⊥ (F.failures folder.old) (F.failures folder.new) result }
     ensures counted { CountsWrites (O.failures output.old) (O.failures output.new) result }
-    ensures told { T.becomes teller.old teller.new }
+    ensures reported { T.becomes progress.old progress.new }
 {
-    let Crew { alloc, team, .. } = filling.crew;
+    let Context {
+        alloc,
+        parallelism,
+        ..
+    } = filling.context;
     let mut filled = Filled::new(alloc)?;
-    let mut stock = TableSet::new(alloc)?;
-    let way = Way::Built { team, all: false };
-    teller.announce(filling.pair, filling.layout, way);
-    add_files(filling, &mut stock, &mut filled, folder, output, teller)?;
+    let mut tables = TableSet::new(alloc)?;
+    let plan = Plan::Built {
+        parallelism,
+        all: false,
+    };
+    progress.start(filling.pair, filling.layout, plan);
+    add_files(filling, &mut tables, &mut filled, folder, output, progress)?;
     let Filled { written, .. } = filled;
     Ok(written)
 }
 
 /// Fills a folder that is there over a set of tables. Where there are several workers, the file of
 /// a table is written while the next one is built.
-fn add_files<B: Board, R: Threads + Wait + Sync, F: Folder, O: Sink, T: Teller>(
+fn add_files<B: Board, R: Threads + Wait + Sync, F: Folder, O: Sink, T: Progress>(
     filling: &Filling<'_, B, R>,
-    stock: &mut TableSet<B>,
+    tables: &mut TableSet<B>,
     filled: &mut Filled<B>,
     folder: &mut F,
     output: &mut O,
-    teller: &mut T,
+    progress: &mut T,
 ) -> Result<(), Fault>
 where
     F::Writer: Send,
@@ -233,45 +244,45 @@ where
     requires none { filled.old.written.items ≡ [] }
     requires sent { filled.old.sent ≡ 0 }
     requires waiting { filled.old.waiting ≡ None }
-    ensures filled { (kept : List ℕ) → MatchResult result
-        (λ _. IsFilledBut B.shape filling.now.layout filling.now.board.now filling.now.pair filling.now.crew.team.blocks kept
+    ensures filled { (unchanged : List ℕ) → MatchResult result
+        (λ _. IsFilledBut B.shape filling.now.layout filling.now.board.now filling.now.pair filling.now.context.parallelism.blocks unchanged
         (place_of (F.files folder.old) (O.contents output.old)) (place_of (F.files folder.new) (O.contents output.new))
         (digest_lines filling.now.board.now (λ w. w.pair) (λ w. w.digest) filled.new.written.items))
-        (λ refused. FillsFolder B.shape filling.now.layout filling.now.board.now filling.now.pair filling.now.crew.team.blocks kept
+        (λ refused. FillsFolder B.shape filling.now.layout filling.now.board.now filling.now.pair filling.now.context.parallelism.blocks unchanged
         (place_of (F.files folder.old) (O.contents output.old)) (place_of (F.files folder.new) (O.contents output.new)) (Err refused)) }
     ensures locked { F.locked folder.new ≡ true }
     ensures caused { HasCause F.Reader.failures F.Writer.failures (Some false) ⊥ (F.failures folder.old) (F.failures folder.new) result }
     ensures counted { CountsWrites (O.failures output.old) (O.failures output.new) result }
-    ensures told { T.becomes teller.old teller.new }
+    ensures reported { T.becomes progress.old progress.new }
 {
     for below in filling.pair.below() {
-        spare(stock, false, below);
-        let table = build_beside(filling, filled, stock, below, folder, output, teller)?;
-        stock.put(table);
+        drop_unneeded(tables, false, below);
+        let table = build_beside(filling, filled, tables, below, folder, output, progress)?;
+        tables.put(table);
         filled.waiting = Some(below);
-        if filling.crew.team.workers == 1 {
-            file_waiting(filling, filled, stock, folder, output, teller)?;
+        if filling.context.parallelism.workers == 1 {
+            file_waiting(filling, filled, tables, folder, output, progress)?;
         }
     }
-    file_waiting(filling, filled, stock, folder, output, teller)
+    file_waiting(filling, filled, tables, folder, output, progress)
 }
 
 /// Writes the file of the digests: lines that were kept, and those of these files.
 fn end<B: Geometry, F: Folder>(
     alloc: Global,
     board: &str,
-    kept: &[u8],
+    unchanged: &[u8],
     written: &[Written<B>],
     folder: &mut F,
 ) -> Result<(), Fault>
     requires failures { F.failures folder.old < 2 ^ 64 - 2 }
     requires locked { F.locked folder.old ≡ true }
-    ensures ended { (out : Option (List ℕ)) → Ends board.now (kept.now ++ digest_lines board.now (λ w. w.pair) (λ w. w.digest) written.now) (place_of (F.files folder.old) out)
+    ensures ended { (out : Option (List ℕ)) → Ends board.now (unchanged.now ++ digest_lines board.now (λ w. w.pair) (λ w. w.digest) written.now) (place_of (F.files folder.old) out)
         (place_of (F.files folder.new) out) result }
     ensures caused { HasCause F.Reader.failures F.Writer.failures (Some false) ⊥ (F.failures folder.old) (F.failures folder.new) result }
     ensures unwritten { IfErr result (λ refused. is_write refused ≡ false) }
 {
-    match write_list(alloc, folder, board, kept, written) {
+    match write_list(alloc, folder, board, unchanged, written) {
         Ok(()) => Ok(()),
         Err(fault) => Err(step_fault(Fault::Digests, fault.step)),
     }

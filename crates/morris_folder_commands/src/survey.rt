@@ -1,17 +1,17 @@
 //! How much there is to do in a folder, by the headers of its files.
 ghost use Rattle.std.specs.Prelude.{◌≡◌, ◌-◌, ◌^◌, ◌<◌, Err, IfErr, IfOk};
-ghost use Rattle.morris_files.specs.Files.{Keeps};
+ghost use Rattle.morris_files.specs.Files.{AreUnchanged};
 ghost use Rattle.morris_folder_commands.specs.FromSteps.{EndsAt};
 
 use crate::places::pair_at;
 use morris_board::board::Geometry;
 use morris_files::folder::Folder;
 use morris_files::header::{Header, read_header};
-use morris_files::kept::KeptFault;
+use morris_files::stored::StoredFault;
 use morris_index::below::PAIR_COUNT;
 use morris_jobs::fault::Fault;
+use morris_jobs::progress::Progress;
 use morris_jobs::size::{FolderSize, Size};
-use morris_jobs::teller::Teller;
 use std::alloc::Global;
 
 /// What the headers of files say.
@@ -28,24 +28,24 @@ struct Survey {
 ///
 /// # Errors
 /// [`Fault::Memory`] where memory is refused for the name of a file.
-pub(crate) fn look_ahead<B: Geometry, F: Folder, T: Teller>(
+pub(crate) fn look_ahead<B: Geometry, F: Folder, T: Progress>(
     alloc: Global,
     board: &str,
     folder: &mut F,
-    teller: &mut T,
+    progress: &mut T,
 ) -> Result<usize, Fault>
     requires { F.failures folder.old < 2 ^ 64 - 1 }
     ensures end { IfOk result (λ end. EndsAt B.shape end (F.failures folder.old) (F.failures folder.new)) }
     ensures refused { IfErr result (λ refused. refused ≡ Fault.Memory) }
-    ensures kept { Keeps (F.files folder.old) (F.files folder.new) }
-    ensures told { T.becomes teller.old teller.new }
+    ensures unchanged { AreUnchanged (F.files folder.old) (F.files folder.new) }
+    ensures reported { T.becomes progress.old progress.new }
 {
     // Where a file isn't opened here, there has to be room for one failure more.
-    if !teller.is_told() || folder.failures() >= u64::MAX - 1 {
+    if !progress.is_reported() || folder.failures() >= u64::MAX - 1 {
         return Ok(PAIR_COUNT);
     }
     let Survey { size, end } = read_headers::<B, F>(alloc, board, folder)?;
-    teller.announce_size(size);
+    progress.start_with_size(size);
     Ok(end)
 }
 
@@ -62,7 +62,7 @@ fn read_headers<B: Geometry, F: Folder>(
     requires { F.failures folder.old < 2 ^ 64 - 2 }
     ensures end { IfOk result (λ survey. EndsAt B.shape survey.end (F.failures folder.old) (F.failures folder.new)) }
     ensures refused { IfErr result (λ refused. refused ≡ Fault.Memory) }
-    ensures kept { Keeps (F.files folder.old) (F.files folder.new) }
+    ensures unchanged { AreUnchanged (F.files folder.old) (F.files folder.new) }
 {
     let mut so_far = FolderSize::NONE;
     for place in 0..PAIR_COUNT {
@@ -71,15 +71,15 @@ fn read_headers<B: Geometry, F: Folder>(
         };
         match read_header(alloc, folder, board, pair) {
             Ok(Some(Header { entries, .. })) => so_far = so_far.with(pair, entries),
-            Err(KeptFault::Memory) => return Err(Fault::Memory),
-            Err(KeptFault::Unopened) => {
+            Err(StoredFault::Memory) => return Err(Fault::Memory),
+            Err(StoredFault::Unopened) => {
                 return Ok(Survey {
                     size: so_far.size,
                     end: place,
                 });
             }
             // A file that isn't right is refused when its turn comes.
-            Ok(None) | Err(KeptFault::Refused(_) | KeptFault::OtherPair) => {}
+            Ok(None) | Err(StoredFault::Refused(_) | StoredFault::OtherPair) => {}
         }
     }
     Ok(Survey {

@@ -1,8 +1,8 @@
 //! Folders, files of tables in them, and look-ups in such files.
 
-mod kept;
 mod lists;
 mod looking;
+mod stored;
 mod system;
 mod text;
 mod writing;

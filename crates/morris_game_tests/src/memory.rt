@@ -171,14 +171,14 @@ impl MemoryFolder {
     }
 
     /// Removes the file of one name, unless it is that of the other.
-    fn remove_unless(&mut self, name: &str, kept: &str)
-        ensures kept { files_of self.new kept.now ≡ files_of self.old kept.now }
-        ensures gone { name.now ≢ kept.now → files_of self.new name.now ≡ None }
+    fn remove_unless(&mut self, name: &str, retained: &str)
+        ensures retained { files_of self.new retained.now ≡ files_of self.old retained.now }
+        ensures gone { name.now ≢ retained.now → files_of self.new name.now ≡ None }
         ensures others { AreSameBut name.now (files_of self.old) (files_of self.new) }
         ensures failures { failures_of self.new ≡ failures_of self.old }
         ensures lock { lock_of self.new ≡ lock_of self.old }
     {
-        if name != kept {
+        if name != retained {
             self.take_away(name);
         }
     }

@@ -9,7 +9,7 @@ use Rattle.std.proofs.lemmas.List.Sums.{length-filter, count_by-le-length, AllPa
 use Rattle.std.proofs.lemmas.Map.Views.{Contains-from_any}
 use Rattle.std.proofs.lemmas.Option.{slice_get_within, get_or_from_slice_get, slice_get-map, slice_get-get_or}
 use Rattle.std.proofs.Math.Path.{ap₂}
-use Rattle.morris_index.specs.Pairs.{Counts, counts, IsPair, needed, all_pairs, is_below, below_of, below_from, EndsIn, NeedsFirst}
+use Rattle.morris_index.specs.Pairs.{Counts, counts, IsPair, all_needs, all_pairs, is_below, below_of, below_from, EndsIn, NeedsFirst}
 use Rattle.morris_index.specs.declared.below.TheConstants as table
 
 -- ---- the table of all pairs
@@ -143,24 +143,24 @@ below_of-last n c h = (take (length (below_of c) - 1) (below_of c), ends (below_
 -- each pair stands after those that it needs
 needs_test : List Counts → List Counts → Bool
 needs_test before [] = true
-needs_test before (c ∷ cs) = list_all (λ d. list_any (same d) before) (needed c) && needs_test (before ++ c ∷ []) cs
+needs_test before (c ∷ cs) = list_all (λ d. list_any (same d) before) (all_needs c) && needs_test (before ++ c ∷ []) cs
 
 needs_all : holds_of_all (λ c. needs_test [] (below_of c)) ≡ true
 unfolding below_of all_pairs needs_test
 needs_all = refl
 
-needs_found : (front cs before after : List Counts) (c need : Counts) → needs_test front cs ≡ true → cs ≡ before ++ c ∷ after → Contains (needed c) need
+needs_found : (front cs before after : List Counts) (c need : Counts) → needs_test front cs ≡ true → cs ≡ before ++ c ∷ after → Contains (all_needs c) need
     → Contains (front ++ before) need
 unfolding needs_test
 needs_found front cs [] after c need test e h =
-    let parts = and_parts (list_all (λ d. list_any (same d) front) (needed c)) (needs_test (front ++ c ∷ []) after) (ap (needs_test front) (sym e) ∙ test) in
-    let found : list_any (same need) front ≡ true = member (λ d. list_any (same d) front) (needed c) need (parts.0) h in
+    let parts = and_parts (list_all (λ d. list_any (same d) front) (all_needs c)) (needs_test (front ++ c ∷ []) after) (ap (needs_test front) (sym e) ∙ test) in
+    let found : list_any (same need) front ≡ true = member (λ d. list_any (same d) front) (all_needs c) need (parts.0) h in
     rw (append-nil front) (Contains-from_any {eq = same} same_is need front found)
   where
     member : (p : Counts → Bool) (ds : List Counts) (d : Counts) → list_all p ds ≡ true → Contains ds d → p d ≡ true
     member p ds d all m = ap p (sym (m.2)) ∙ AllPass-from_list_all p ds all (m.0) d (m.1)
 needs_found front cs (d ∷ before) after c need test e h =
-    let parts = and_parts (list_all (λ d. list_any (same d) front) (needed d)) (needs_test (front ++ d ∷ []) (before ++ c ∷ after)) (ap (needs_test front) (sym e) ∙ test) in
+    let parts = and_parts (list_all (λ d. list_any (same d) front) (all_needs d)) (needs_test (front ++ d ∷ []) (before ++ c ∷ after)) (ap (needs_test front) (sym e) ∙ test) in
     subst (λ ds. Contains ds need) (append_assoc front (d ∷ []) before)
     (needs_found (front ++ d ∷ []) (before ++ c ∷ after) before after c need (parts.1) refl h)
 
@@ -169,7 +169,7 @@ below_of-needs_first n c h = λ before after d need e k.
     needs_found [] (below_of c) before after d need (each_pair (λ c. needs_test [] (below_of c)) needs_all n c h) e k
 
 -- what a pair below needs is below as well
-pub below_of-needed : (n : ℕ) (c d need : Counts) → IsPair n c → Contains (below_of c) d → Contains (needed d) need → Contains (below_of c) need
+pub below_of-needed : (n : ℕ) (c d need : Counts) → IsPair n c → Contains (below_of c) d → Contains (all_needs d) need → Contains (below_of c) need
 below_of-needed n c d need h m k =
     let cut : below_of c ≡ take (m.0) (below_of c) ++ d ∷ drop (m.0 + 1) (below_of c) =
     sym (take-append-drop (m.0) (below_of c)) ∙ ap (λ t. take (m.0) (below_of c) ++ t) (drop_more (below_of c) (m.0) d (m.1) ∙ ap (λ x. x ∷ drop (m.0 + 1) (below_of c)) (m.2)) in

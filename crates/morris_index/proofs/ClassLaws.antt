@@ -12,7 +12,7 @@ use Rattle.morris_board.specs.SymmetryLaws.{below}
 use Rattle.morris_board.proofs.ImageLaws.{IsOneToOne, one_to_one, image_of-lt, count_of-image, image_of-then, image_of-unmoved}
 use Rattle.morris_board.proofs.ImageTables.{image_of-same}
 use Rattle.morris_index.specs.Numbering.{count_below}
-use Rattle.morris_index.specs.Classes.{is_leading, symmetry_of, representative_of, is_representative, classes_below, class_of, AreLeading}
+use Rattle.morris_index.specs.Classes.{is_canonicalizing, symmetry_of, representative_of, is_representative, classes_below, class_of, AreCanonicalizing}
 use Rattle.morris_index.proofs.RankLaws.{count-none, count-yes, count-no}
 
 -- ---- a test over a range
@@ -70,26 +70,26 @@ module _ (board : Shape) (set : ℕ) where
         | inr le ↦ (before.0, subst (λ n. IsFirst board n set before.0) e (first_same (suc count) before.0 before.1 le))
       ]
 
-  leading : (s : ℕ) → IsFirst board board.symmetries set s → is_leading board set s ≡ true
-  unfolding is_leading
-  leading s h = all_range (λ t. leb (at s) (at t)) 0 board.symmetries (λ t low. le-leb _ _ (h.least t (omega arith)))
+  canonicalizing : (s : ℕ) → IsFirst board board.symmetries set s → is_canonicalizing board set s ≡ true
+  unfolding is_canonicalizing
+  canonicalizing s h = all_range (λ t. leb (at s) (at t)) 0 board.symmetries (λ t low. le-leb _ _ (h.least t (omega arith)))
 
-  not_leading : (s t : ℕ) → s < board.symmetries → at s < at t → is_leading board set t ≡ false
-  unfolding is_leading
-  not_leading s t low less = false_from_ne_true _ (λ h. absurd (omega (arith, leb-true (at t) (at s) (below (λ k. leb (at t) (at k)) board.symmetries h s low))))
+  not_canonicalizing : (s t : ℕ) → s < board.symmetries → at s < at t → is_canonicalizing board set t ≡ false
+  unfolding is_canonicalizing
+  not_canonicalizing s t low less = false_from_ne_true _ (λ h. absurd (omega (arith, leb-true (at t) (at s) (below (λ k. leb (at t) (at k)) board.symmetries h s low))))
 
   -- it is the one that the definition says
   pub first_is : (s : ℕ) → IsFirst board board.symmetries set s → symmetry_of board set ≡ s
   unfolding symmetry_of
   first_is s h =
-      position_or_len_is (is_leading board set) (range_with_len 0 board.symmetries) s 0 (omega (arith, h.within, length-range_with_len 0 board.symmetries))
+      position_or_len_is (is_canonicalizing board set) (range_with_len 0 board.symmetries) s 0 (omega (arith, h.within, length-range_with_len 0 board.symmetries))
       (λ k low.
       let low' : k < board.symmetries = omega (arith, h.within) in
       let e : get_or (range_with_len 0 board.symmetries) k 0 ≡ k = get_or-range_with_len 0 board.symmetries k 0 low' ∙ omega arith in
-      ap (is_leading board set) e ∙ not_leading s k h.within (h.first k low))
+      ap (is_canonicalizing board set) e ∙ not_canonicalizing s k h.within (h.first k low))
       (λ low.
       let e : get_or (range_with_len 0 board.symmetries) s 0 ≡ s = get_or-range_with_len 0 board.symmetries s 0 h.within ∙ omega arith in
-      ap (is_leading board set) e ∙ leading s h)
+      ap (is_canonicalizing board set) e ∙ canonicalizing s h)
 
   pub symmetry_first : 0 < board.symmetries → IsFirst board board.symmetries set (symmetry_of board set)
   symmetry_first some =
@@ -98,8 +98,8 @@ module _ (board : Shape) (set : ℕ) where
       let is = subst (λ n. IsFirst board n set found.0) e found.1 in
       subst (IsFirst board board.symmetries set) (sym (first_is found.0 is)) is
 
-  pub symmetry_leads : 0 < board.symmetries → is_leading board set (symmetry_of board set) ≡ true
-  symmetry_leads some = leading (symmetry_of board set) (symmetry_first some)
+  pub symmetry_leads : 0 < board.symmetries → is_canonicalizing board set (symmetry_of board set) ≡ true
+  symmetry_leads some = canonicalizing (symmetry_of board set) (symmetry_first some)
 
 -- ---- all symmetries that lead to the least image
 
@@ -167,48 +167,48 @@ module _ (board : Shape) (set : ℕ) where
   }
 
   -- a symmetry that leads to the least image leads to the same image as the first that does
-  leads_same : (s t : ℕ) → IsFirst board board.symmetries set s → t < board.symmetries → is_leading board set t ≡ true → at board set t ≡ at board set s
-  unfolding is_leading
+  leads_same : (s t : ℕ) → IsFirst board board.symmetries set s → t < board.symmetries → is_canonicalizing board set t ≡ true → at board set t ≡ at board set s
+  unfolding is_canonicalizing
   leads_same s t first low h =
       omega (arith, first.least t low, leb-true (at board set t) (at board set s) (below (λ k. leb (at board set t) (at board set k)) board.symmetries h s first.within))
 
-  same_leads : (s t : ℕ) → IsFirst board board.symmetries set s → at board set t ≡ at board set s → is_leading board set t ≡ true
-  unfolding is_leading
+  same_leads : (s t : ℕ) → IsFirst board board.symmetries set s → at board set t ≡ at board set s → is_canonicalizing board set t ≡ true
+  unfolding is_canonicalizing
   same_leads s t first e =
       all_range (λ u. leb (at board set t) (at board set u)) 0 board.symmetries (λ u low. le-leb _ _ (omega (arith, e, first.least u (omega arith))))
 
-  pub leading_set : (s x : ℕ) → IsFirst board board.symmetries set s → AreSame board board.symmetries set s x → AreLeading board set x
-  leading_set s x first h t =
-      same_test (has x t) (ltb t board.symmetries && is_leading board set t)
+  pub canonicalizing_set : (s x : ℕ) → IsFirst board board.symmetries set s → AreSame board board.symmetries set s x → AreCanonicalizing board set x
+  canonicalizing_set s x first h t =
+      same_test (has x t) (ltb t board.symmetries && is_canonicalizing board set t)
       (λ y. let r = h.each t y in and_from _ _ (lt-ltb t board.symmetries r.0) (same_leads s t first r.1))
       (λ y.
       let parts = and_parts _ _ y in
       let low : t < board.symmetries = ltb-true _ _ parts.0 in
       h.all t low (leads_same s t first low parts.1))
 
-  pub has_first : (x : ℕ) → 0 < board.symmetries → AreLeading board set x → has x (symmetry_of board set) ≡ true
-  has_first x some leads =
-      leads (symmetry_of board set)
+  pub has_first : (x : ℕ) → 0 < board.symmetries → AreCanonicalizing board set x → has x (symmetry_of board set) ≡ true
+  has_first x some set_classes =
+      set_classes (symmetry_of board set)
       ∙ and_from _ _ (lt-ltb (symmetry_of board set) board.symmetries (symmetry_first board set some).within) (symmetry_leads board set some)
 
   -- the least of them is the one that the definition says
-  pub first_leading : (x p : ℕ) → 0 < board.symmetries → AreLeading board set x → has x p ≡ true → ((k : ℕ) → k < p → has x k ≡ false) → p ≡ symmetry_of board set
-  first_leading x p some leads here below =
+  pub least_canonicalizing : (x p : ℕ) → 0 < board.symmetries → AreCanonicalizing board set x → has x p ≡ true → ((k : ℕ) → k < p → has x k ≡ false) → p ≡ symmetry_of board set
+  least_canonicalizing x p some set_classes here below =
       let first = symmetry_first board set some in
-      let parts = and_parts (ltb p board.symmetries) (is_leading board set p) (sym (leads p) ∙ here) in
+      let parts = and_parts (ltb p board.symmetries) (is_canonicalizing board set p) (sym (set_classes p) ∙ here) in
       let same = leads_same (symmetry_of board set) p first (ltb-true p board.symmetries parts.0) parts.1 in
       elim (cases_lt p (symmetry_of board set)) [
         | inl less ↦ absurd (omega (arith, same, first.first p less))
         | inr le ↦ elim (cases_eq p (symmetry_of board set)) [
           | inl e ↦ e
-          | inr d ↦ absurd (both_ways (has x (symmetry_of board set)) (below (symmetry_of board set) (omega arith)) (has_first x some leads))
+          | inr d ↦ absurd (both_ways (has x (symmetry_of board set)) (below (symmetry_of board set) (omega arith)) (has_first x some set_classes))
         ]
       ]
 
   -- so it leads to the representative
-  pub led_least : (t : ℕ) → t < board.symmetries → is_leading board set t ≡ true → image_of (board.image t) set ≡ representative_of board set
+  pub canonical_least : (t : ℕ) → t < board.symmetries → is_canonicalizing board set t ≡ true → image_of (board.image t) set ≡ representative_of board set
   unfolding representative_of
-  led_least t low h = leads_same (symmetry_of board set) t (symmetry_first board set (omega arith)) low h
+  canonical_least t low h = leads_same (symmetry_of board set) t (symmetry_first board set (omega arith)) low h
 
 -- the least image so far, and all symmetries so far that lead there
 pub record IsLeastSoFar (board : Shape) (count set least x : ℕ) : Type 0 where
@@ -276,16 +276,16 @@ module _ (board : Shape) (few : board.points ≤ 24) (y : HasSymmetries board) w
         first = λ t low. absurd (omega arith);
       })
 
-  led_by_none : (r : ℕ) → r < 2 ^ board.points → symmetry_of board r ≡ 0 → representative_of board r ≡ r
+  canonical_by_none : (r : ℕ) → r < 2 ^ board.points → symmetry_of board r ≡ 0 → representative_of board r ≡ r
   unfolding representative_of
-  led_by_none r within e = ap (λ s. image_of (board.image s) r) e ∙ image_none r within
+  canonical_by_none r within e = ap (λ s. image_of (board.image s) r) e ∙ image_none r within
 
   module _ (set : ℕ) (small : set < 2 ^ board.points) where
     pub representative_symmetry : symmetry_of board (representative_of board set) ≡ 0
     representative_symmetry = own_symmetry (representative_of board set) (representative_within set small) (images_above set small)
 
     pub representative_twice : representative_of board (representative_of board set) ≡ representative_of board set
-    representative_twice = led_by_none (representative_of board set) (representative_within set small) representative_symmetry
+    representative_twice = canonical_by_none (representative_of board set) (representative_within set small) representative_symmetry
 
     pub class_of-representative : class_of board (representative_of board set) ≡ class_of board set
     unfolding class_of

@@ -12,7 +12,7 @@ use Rattle.morris_board.proofs.ImageLaws.{one_to_one, IsPosition-image, count_of
 use Rattle.morris_index.specs.Binomials.{choose}
 use Rattle.morris_index.specs.Numbering.{rank_of, number_outside, half_size, half_index}
 use Rattle.morris_index.specs.Classes.{symmetry_of, representative_of, is_representative, classes_below, class_of, class_count}
-use Rattle.morris_index.specs.ClassPairs.{led, class_half_size, class_half_index, class_size_of, class_index_of}
+use Rattle.morris_index.specs.ClassPairs.{canonical_form, class_half_size, class_half_index, class_size_of, class_index_of}
 use Rattle.morris_index.specs.ClassMoves.{class_half_start, class_start_of}
 use Rattle.morris_index.proofs.IndexLaws.{IsPlaced, placed, other_apart, other_rank-lt, rank_outside-same, parts_lt, parts_same, number_outside-count, half_size-few, halves_of}
 use Rattle.morris_index.proofs.ClassLaws.{symmetry_within, image_none, representative_within, representative_count, representative_twice, representative_symmetry, test_from, class_alone, class_lt}
@@ -32,38 +32,38 @@ module _ (board : Shape) (n : ℕ) (few : n ≤ 24) (points : board.points ≡ n
     own_within = h.stones.own_within
 
     -- the position that it is led to is a position with as many stones, on the representative
-    pub led_position : IsPosition board (led board s)
-    unfolding led
-    led_position = IsPosition-image board low _ _ (one_to_one board _ _ (y.symmetry (symmetry_of board s.own) (symmetry_within board low y s.own own_within))) s h
+    pub canonical_position : IsPosition board (canonical_form board s)
+    unfolding canonical_form
+    canonical_position = IsPosition-image board low _ _ (one_to_one board _ _ (y.symmetry (symmetry_of board s.own) (symmetry_within board low y s.own own_within))) s h
 
-    pub led_own : (led board s).own ≡ representative_of board s.own
-    unfolding led representative_of
-    led_own = refl
+    pub canonical_own : (canonical_form board s).own ≡ representative_of board s.own
+    unfolding canonical_form representative_of
+    canonical_own = refl
 
-    pub led_own_count : count_of (led board s).own ≡ count_of s.own
-    led_own_count = ap count_of led_own ∙ representative_count board low y s.own own_within
+    pub canonical_own_count : count_of (canonical_form board s).own ≡ count_of s.own
+    canonical_own_count = ap count_of canonical_own ∙ representative_count board low y s.own own_within
 
-    pub led_other_count : count_of (led board s).other ≡ count_of s.other
-    unfolding led
-    led_other_count =
+    pub canonical_other_count : count_of (canonical_form board s).other ≡ count_of s.other
+    unfolding canonical_form
+    canonical_other_count =
         count_of-image board.points low _ _ (one_to_one board _ _ (y.symmetry (symmetry_of board s.own) (symmetry_within board low y s.own own_within)))
         s.other h.stones.other_within
 
-    led_placed : IsPlaced n (led board s)
-    led_placed = placed board n (led board s) points led_position
+    canonical_placed : IsPlaced n (canonical_form board s)
+    canonical_placed = placed board n (canonical_form board s) points canonical_position
 
-    abbrev led_rank : ℕ
-    led_rank = rank_of (map (number_outside (led board s).own) (members (led board s).other))
+    abbrev canonical_rank : ℕ
+    canonical_rank = rank_of (map (number_outside (canonical_form board s).own) (members (canonical_form board s).other))
 
     -- the stones of the opponent have a rank among the choices
-    pub led_rank-lt : led_rank < choose (n - count_of s.own) (count_of s.other)
-    led_rank-lt =
-        subst (λ a. led_rank < choose (n - a) (count_of s.other)) led_own_count
-        (subst (λ b. led_rank < choose (n - count_of (led board s).own) b) led_other_count (other_rank-lt n (omega arith) (led board s) led_placed))
+    pub canonical_rank-lt : canonical_rank < choose (n - count_of s.own) (count_of s.other)
+    canonical_rank-lt =
+        subst (λ a. canonical_rank < choose (n - a) (count_of s.other)) canonical_own_count
+        (subst (λ b. canonical_rank < choose (n - count_of (canonical_form board s).own) b) canonical_other_count (other_rank-lt n (omega arith) (canonical_form board s) canonical_placed))
 
     pub class_index-lt : class_of board s.own < class_count board (count_of s.own) → class_half_index board n s < class_half_size board n (count_of s.own) (count_of s.other)
     unfolding class_half_index class_half_size
-    class_index-lt class = parts_lt (class_of board s.own) led_rank (class_count board (count_of s.own)) (choose (n - count_of s.own) (count_of s.other)) class led_rank-lt
+    class_index-lt class = parts_lt (class_of board s.own) canonical_rank (class_count board (count_of s.own)) (choose (n - count_of s.own) (count_of s.other)) class canonical_rank-lt
 
   -- two positions with as many stones and the same number are led to the same position
   module _ (s t : Sides) (h : IsPosition board s) (k : IsPosition board t) (own : count_of s.own ≡ count_of t.own) (other : count_of s.other ≡ count_of t.other)
@@ -71,12 +71,12 @@ module _ (board : Shape) (n : ℕ) (few : n ≤ 24) (points : board.points ≡ n
     free_same : choose (n - count_of t.own) (count_of t.other) ≡ choose (n - count_of s.own) (count_of s.other)
     free_same = rw (own, other) refl
 
-    parts : (class_of board s.own ≡ class_of board t.own) × (led_rank s h ≡ led_rank t k)
+    parts : (class_of board s.own ≡ class_of board t.own) × (canonical_rank s h ≡ canonical_rank t k)
     unfolding class_half_index
     parts =
-        parts_same (class_of board s.own) (led_rank s h) (class_of board t.own) (led_rank t k) (choose (n - count_of s.own) (count_of s.other)) (led_rank-lt s h)
-        (subst (λ c. led_rank t k < c) free_same (led_rank-lt t k))
-        (same ∙ ap (λ c. class_of board t.own * c + led_rank t k) free_same)
+        parts_same (class_of board s.own) (canonical_rank s h) (class_of board t.own) (canonical_rank t k) (choose (n - count_of s.own) (count_of s.other)) (canonical_rank-lt s h)
+        (subst (λ c. canonical_rank t k < c) free_same (canonical_rank-lt t k))
+        (same ∙ ap (λ c. class_of board t.own * c + canonical_rank t k) free_same)
 
     own_class : (u : Sides) (l : IsPosition board u) (count : ℕ) → count_of u.own ≡ count
         → (is_representative board count (representative_of board u.own) ≡ true) × (classes_below board count (representative_of board u.own) ≡ class_of board u.own)
@@ -87,35 +87,35 @@ module _ (board : Shape) (n : ℕ) (few : n ≤ 24) (points : board.points ≡ n
       ap (λ c. classes_below board c (representative_of board u.own)) (sym e),
     )
 
-    same_own : (led board s).own ≡ (led board t).own
+    same_own : (canonical_form board s).own ≡ (canonical_form board t).own
     same_own =
         let a = own_class s h (count_of s.own) refl in
         let b = own_class t k (count_of s.own) (sym own) in
-        led_own s h
+        canonical_own s h
         ∙ class_alone board (count_of s.own) (representative_of board s.own) (representative_of board t.own) a.0 b.0 (a.1 ∙ parts.0 ∙ sym b.1)
-        ∙ sym (led_own t k)
+        ∙ sym (canonical_own t k)
 
-    same_other : (led board s).other ≡ (led board t).other
+    same_other : (canonical_form board s).other ≡ (canonical_form board t).other
     same_other =
-        rank_outside-same n (led board s).own (omega arith) (led board s).other (led board t).other (led_placed s h).other_within (led_placed t k).other_within
-        (other_apart n (omega arith) (led board s) (led_placed s h))
-        (λ p here. subst (λ o. has o p ≡ false) (sym same_own) (other_apart n (omega arith) (led board t) (led_placed t k) p here))
-        (led_other_count s h ∙ other ∙ sym (led_other_count t k))
-        (parts.1 ∙ ap (λ o. rank_of (map (number_outside o) (members (led board t).other))) (sym same_own))
+        rank_outside-same n (canonical_form board s).own (omega arith) (canonical_form board s).other (canonical_form board t).other (canonical_placed s h).other_within (canonical_placed t k).other_within
+        (other_apart n (omega arith) (canonical_form board s) (canonical_placed s h))
+        (λ p here. subst (λ o. has o p ≡ false) (sym same_own) (other_apart n (omega arith) (canonical_form board t) (canonical_placed t k) p here))
+        (canonical_other_count s h ∙ other ∙ sym (canonical_other_count t k))
+        (parts.1 ∙ ap (λ o. rank_of (map (number_outside o) (members (canonical_form board t).other))) (sym same_own))
 
-    pub led_same : led board s ≡ led board t
-    led_same = ap₂ sides same_own same_other
+    pub canonical_same : canonical_form board s ≡ canonical_form board t
+    canonical_same = ap₂ sides same_own same_other
 
   -- ---- from a number to the position
 
   module _ (own other : ℕ) (own_in : own < 2 ^ n) (other_in : other < 2 ^ n) (own_least : representative_of board own ≡ own) where
-    led_by_none : symmetry_of board own ≡ 0
-    led_by_none = ap (symmetry_of board) (sym own_least) ∙ representative_symmetry board low y own (on_board own own_in)
+    canonical_by_none : symmetry_of board own ≡ 0
+    canonical_by_none = ap (symmetry_of board) (sym own_least) ∙ representative_symmetry board low y own (on_board own own_in)
 
-    pub led_itself : led board (sides own other) ≡ sides own other
-    unfolding led
-    led_itself =
-        ap (λ s. image_sides (board.image s) (sides own other)) led_by_none
+    pub canonical_itself : canonical_form board (sides own other) ≡ sides own other
+    unfolding canonical_form
+    canonical_itself =
+        ap (λ s. image_sides (board.image s) (sides own other)) canonical_by_none
         ∙ ap₂ sides (image_none board low y own (on_board own own_in)) (image_none board low y other (on_board other other_in))
 
     pub class_index-of : (a b index : ℕ) → count_of own ≡ a → count_of other ≡ b → class_of board own ≡ index / choose (n - a) b
@@ -123,8 +123,8 @@ module _ (board : Shape) (n : ℕ) (few : n ≤ 24) (points : board.points ≡ n
         → class_half_index board n (sides own other) ≡ index
     unfolding class_half_index
     class_index-of a b index own_count other_count class rank some =
-        let ranks : rank_of (map (number_outside (led board (sides own other)).own) (members (led board (sides own other)).other)) ≡ index % choose (n - a) b =
-        ap (λ s. rank_of (map (number_outside s.own) (members s.other))) led_itself ∙ rank in
+        let ranks : rank_of (map (number_outside (canonical_form board (sides own other)).own) (members (canonical_form board (sides own other)).other)) ≡ index % choose (n - a) b =
+        ap (λ s. rank_of (map (number_outside s.own) (members s.other))) canonical_itself ∙ rank in
         rw (own_count, other_count, class, ranks) (div-add-mod' index (choose (n - a) b))
 
   module _ (a b index : ℕ) (small : index < class_half_size board n a b) where
@@ -189,11 +189,11 @@ module _ (board : Shape) (n : ℕ) (few : n ≤ 24) (points : board.points ≡ n
 
     -- an entry by its parts: where those with its class begin, and the rank of the opponent's stones
     pub entry-parts : (s : Sides) → class_index_of board n c s
-        ≡ class_start_of board n c s.own (count_of s.other) + rank_of (map (number_outside (led board s).own) (members (led board s).other))
+        ≡ class_start_of board n c s.own (count_of s.other) + rank_of (map (number_outside (canonical_form board s).own) (members (canonical_form board s).other))
     unfolding class_half_index
     entry-parts s =
         let half : class_half_index board n s
-        ≡ class_half_start board n s.own (count_of s.other) + rank_of (map (number_outside (led board s).own) (members (led board s).other)) = refl in
+        ≡ class_half_start board n s.own (count_of s.other) + rank_of (map (number_outside (canonical_form board s).own) (members (canonical_form board s).other)) = refl in
         elim (cases_eq (count_of s.own) c.greater) [
           | inl e ↦ index-first s e ∙ half ∙ rw (eq-eqb (count_of s.own) c.greater e) (omega arith)
           | inr d ↦ index-second s d ∙ rw (ne_eqb (count_of s.own) c.greater d) (omega (arith, half))
@@ -222,11 +222,11 @@ module _ (board : Shape) (n : ℕ) (few : n ≤ 24) (points : board.points ≡ n
     ]
 
     -- positions with the same entry are led to the same position
-    pub led_alone : (s t : Sides) → IsPosition board s → IsPosition board t → is_of c s ≡ true → is_of c t ≡ true
-        → class_index_of board n c s ≡ class_index_of board n c t → led board s ≡ led board t
-    led_alone s t h k s_of t_of same = elim (halves_of c s s_of) [
+    pub canonical_alone : (s t : Sides) → IsPosition board s → IsPosition board t → is_of c s ≡ true → is_of c t ≡ true
+        → class_index_of board n c s ≡ class_index_of board n c t → canonical_form board s ≡ canonical_form board t
+    canonical_alone s t h k s_of t_of same = elim (halves_of c s s_of) [
       | inl a ↦ elim (halves_of c t t_of) [
-        | inl b ↦ led_same s t h k (a.0 ∙ sym b.0) (a.1 ∙ sym b.1) (sym (index-first s a.0) ∙ same ∙ index-first t b.0)
+        | inl b ↦ canonical_same s t h k (a.0 ∙ sym b.0) (a.1 ∙ sym b.1) (sym (index-first s a.0) ∙ same ∙ index-first t b.0)
         | inr b ↦
             let own : count_of t.own ≢ c.greater = λ e. b.0 (sym e ∙ b.1) in
             absurd (omega (arith, same, index-first s a.0, half_below c.greater c.lesser s h a.0 a.1, index-second t own))
@@ -237,7 +237,7 @@ module _ (board : Shape) (n : ℕ) (few : n ≤ 24) (points : board.points ≡ n
             | inl b ↦ absurd (omega (arith, same, index-first t b.0, half_below c.greater c.lesser t k b.0 b.1, index-second s s_own))
             | inr b ↦
                 let t_own : count_of t.own ≢ c.greater = λ e. b.0 (sym e ∙ b.1) in
-                led_same s t h k (a.1 ∙ sym b.1) (a.2 ∙ sym b.2) (omega (arith, same, index-second s s_own, index-second t t_own))
+                canonical_same s t h k (a.1 ∙ sym b.1) (a.2 ∙ sym b.2) (omega (arith, same, index-second s s_own, index-second t t_own))
           ]
     ]
 
@@ -247,8 +247,8 @@ module _ (board : Shape) (n : ℕ) (few : n ≤ 24) (points : board.points ≡ n
     within_n : (u : Sides) → IsPosition board u → (u.own < 2 ^ n) × (u.other < 2 ^ n)
     within_n u l = (subst (λ m. u.own < 2 ^ m) points l.stones.own_within, subst (λ m. u.other < 2 ^ m) points l.stones.other_within)
 
-    pub next_led : led board t ≡ t
-    next_led = led_itself t.own t.other (within_n t k).0 (within_n t k).1 (rw own least)
+    pub next_canonical : canonical_form board t ≡ t
+    next_canonical = canonical_itself t.own t.other (within_n t k).0 (within_n t k).1 (rw own least)
 
     rank_next : rank_of (map (number_outside t.own) (members t.other)) ≡ rank_of (map (number_outside s.own) (members s.other)) + 1
     unfolding half_index
@@ -262,11 +262,11 @@ module _ (board : Shape) (n : ℕ) (few : n ≤ 24) (points : board.points ≡ n
     next_half =
         let same : class_of board t.own * choose (n - count_of t.own) (count_of t.other) ≡ class_of board s.own * choose (n - count_of s.own) (count_of s.other) =
         rw (own, other) refl in
-        let itself : led board s ≡ s = led_itself s.own s.other (within_n s h).0 (within_n s h).1 least in
-        let before : rank_of (map (number_outside (led board s).own) (members (led board s).other)) ≡ rank_of (map (number_outside s.own) (members s.other)) =
+        let itself : canonical_form board s ≡ s = canonical_itself s.own s.other (within_n s h).0 (within_n s h).1 least in
+        let before : rank_of (map (number_outside (canonical_form board s).own) (members (canonical_form board s).other)) ≡ rank_of (map (number_outside s.own) (members s.other)) =
         ap (λ u. rank_of (map (number_outside u.own) (members u.other))) itself in
-        let after : rank_of (map (number_outside (led board t).own) (members (led board t).other)) ≡ rank_of (map (number_outside t.own) (members t.other)) =
-        ap (λ u. rank_of (map (number_outside u.own) (members u.other))) next_led in
+        let after : rank_of (map (number_outside (canonical_form board t).own) (members (canonical_form board t).other)) ≡ rank_of (map (number_outside t.own) (members t.other)) =
+        ap (λ u. rank_of (map (number_outside u.own) (members u.other))) next_canonical in
         omega (arith, same, before, after, rank_next)
 
     pub next_entry : (c : Counts) → class_index_of board n c t ≡ class_index_of board n c s + 1

@@ -13,14 +13,14 @@ use Rattle.morris_index.specs.ClassPairs.{class_size_of, class_index_of}
 use Rattle.morris_index.specs.Numbering.{rank_of, number_outside}
 use Rattle.morris_index.specs.Pairs.{Counts}
 use Rattle.morris_index.specs.Moves.{InPair}
-use Rattle.morris_index.specs.Parts.{weight, squeezed_below}
-use Rattle.morris_index.specs.Standings.{are_of, IsLedStanding, IsElsewhere}
+use Rattle.morris_index.specs.Parts.{bit_of_number, squeeze_below}
+use Rattle.morris_index.specs.Standings.{are_of, IsCanonicalStanding, IsElsewhere}
 use Rattle.morris_index.specs.declared.standing.Standing.{Standing}
 use Rattle.morris_index.proofs.CarriedLaws.{carried_rank}
 use Rattle.morris_index.proofs.ClassLaws.{image_none, representative_symmetry}
 use Rattle.morris_index.proofs.SetLaws.{or_false}
 use Rattle.morris_index.proofs.Moving.{total-zero, total-suc, alike}
-use Rattle.morris_index.proofs.Squeezing.{squeezed-24, squeezed-rank}
+use Rattle.morris_index.proofs.Squeezing.{squeeze-24, squeeze-rank}
 use Rattle.morris_index.proofs.StandingLaws.{entry-is}
 use Rattle.morris_index.proofs.ClassPairLaws.{index-lt}
 use Rattle.morris_index.proofs.IndexLaws.{placed}
@@ -31,10 +31,10 @@ use Rattle.morris_index.proofs.RankLaws.{number-count}
 
 module _ (outside set p : ℕ) (low : p < 24) (free : has outside p ≡ false) (none : has set p ≡ false) where
   abbrev before : ℕ → ℕ
-  before = weight outside set
+  before = bit_of_number outside set
 
   abbrev after : ℕ → ℕ
-  after = weight outside (with_point set p)
+  after = bit_of_number outside (with_point set p)
 
   same : (q : ℕ) → q ≢ p → before q ≡ after q
   same q n = let e : has (with_point set p) q ≡ has set q = has-with set p q ∙ rw (ne_eqb q p n) (or_false (has set q)) in rw e refl
@@ -47,9 +47,9 @@ module _ (outside set p : ℕ) (low : p < 24) (free : has outside p ≡ false) (
       let e : has (with_point set p) p ≡ true = has-with set p p ∙ rw (none, eq-eqb p p refl) refl in
       rw (e, free) refl
 
-  pub squeezed-more : squeezed_below outside (with_point set p) 24 ≡ squeezed_below outside set 24 + 2 ^ number_outside outside p
-  unfolding squeezed_below
-  squeezed-more = omega (
+  pub squeeze-more : squeeze_below outside (with_point set p) 24 ≡ squeeze_below outside set 24 + 2 ^ number_outside outside p
+  unfolding squeeze_below
+  squeeze-more = omega (
     arith,
     alike before after 0 p (omega arith) (λ q h k. same q (omega (arith, k))),
     total-zero before,
@@ -64,7 +64,7 @@ module _ (outside set p : ℕ) (low : p < 24) (free : has outside p ≡ false) (
 -- ---- the entry of a position in which the player to move stands on a representative
 
 module _ (board : Shape) (n : ℕ) (few : n ≤ 24) (points : board.points ≡ n) (y : HasSymmetries board) (c : Counts) (standing : Standing) (other : ℕ)
-    (k : IsLedStanding board n c (count_of other) standing) (h : IsPosition board (sides standing.own other))
+    (k : IsCanonicalStanding board n c (count_of other) standing) (h : IsPosition board (sides standing.own other))
     (least : representative_of board standing.own ≡ standing.own) where
   unled : standing.symmetry ≡ 0
   unled = k.symmetry ∙ ap (symmetry_of board) (sym least) ∙ representative_symmetry board (omega arith) y standing.own h.stones.own_within
@@ -79,8 +79,8 @@ module _ (board : Shape) (n : ℕ) (few : n ≤ 24) (points : board.points ≡ n
 
 -- ---- where the stone stands on p
 
-module _ (board : Shape) (n : ℕ) (few : n ≤ 24) (points : board.points ≡ n) (y : HasSymmetries board) (at : InPair) (standing : Standing) (squeezed count : ℕ)
-    (k : IsElsewhere board n at standing squeezed count) (p : ℕ) (none : has at.position.other p ≡ false)
+module _ (board : Shape) (n : ℕ) (few : n ≤ 24) (points : board.points ≡ n) (y : HasSymmetries board) (at : InPair) (standing : Standing) (squeeze count : ℕ)
+    (k : IsElsewhere board n at standing squeeze count) (p : ℕ) (none : has at.position.other p ≡ false)
     (h : IsPosition board (sides at.position.own (with_point at.position.other p))) where
   abbrev own : ℕ
   own = at.position.own
@@ -107,19 +107,19 @@ module _ (board : Shape) (n : ℕ) (few : n ≤ 24) (points : board.points ≡ n
   number_few = omega (arith, number-count standing.own p)
 
   abbrev numbers : ℕ
-  numbers = squeezed + 2 ^ number_outside standing.own p
+  numbers = squeeze + 2 ^ number_outside standing.own p
 
-  are_numbers : numbers ≡ squeezed_below own more 24
+  are_numbers : numbers ≡ squeeze_below own more 24
   are_numbers =
       omega (
         arith,
         k.numbers,
         ap (λ o. 2 ^ number_outside o p) k.own,
-        squeezed-more own at.position.other p (omega (arith, on_board, few)) (apart p here) none,
+        squeeze-more own at.position.other p (omega (arith, on_board, few)) (apart p here) none,
       )
 
   pub numbers_within : numbers < 2 ^ 24
-  numbers_within = rw are_numbers (squeezed-24 own more apart 24 (omega arith))
+  numbers_within = rw are_numbers (squeeze-24 own more apart 24 (omega arith))
 
   same_count : count_of more ≡ count
   same_count = count_of-with at.position.other p (omega (arith, on_board, few)) none ∙ sym k.counted
@@ -130,11 +130,11 @@ module _ (board : Shape) (n : ℕ) (few : n ≤ 24) (points : board.points ≡ n
   ranked : rank_of (map (number_outside 0) (members numbers)) ≡ rank_of (map (number_outside standing.own) (members more))
   ranked =
       ap (λ x. rank_of (map (number_outside 0) (members x))) are_numbers
-      ∙ squeezed-rank own more apart others_within
+      ∙ squeeze-rank own more apart others_within
       ∙ ap (λ o. rank_of (map (number_outside o) (members more))) (sym k.own)
 
-  stands : IsLedStanding board n at.pair (count_of more) standing
-  stands = subst (λ m. IsLedStanding board n at.pair m standing) (sym same_count) k.stands
+  stands : IsCanonicalStanding board n at.pair (count_of more) standing
+  stands = subst (λ m. IsCanonicalStanding board n at.pair m standing) (sym same_count) k.stands
 
   lawful : IsPosition board (sides standing.own more)
   lawful = subst (λ o. IsPosition board (sides o more)) (sym k.own) h

@@ -11,13 +11,13 @@ use Rattle.morris_board.specs.Symmetries.{HasSymmetries}
 use Rattle.morris_index.specs.Binomials.{choose}
 use Rattle.morris_index.specs.Numbering.{rank_of, number_outside, IsRanked}
 use Rattle.morris_index.specs.Pairs.{Counts, IsPair, is_of}
-use Rattle.morris_index.specs.Parts.{squeezed_below}
+use Rattle.morris_index.specs.Parts.{squeeze_below}
 use Rattle.morris_index.specs.Classes.{representative_of, class_of}
-use Rattle.morris_index.specs.ClassPairs.{led, class_half_size, class_size_of, class_index_of}
+use Rattle.morris_index.specs.ClassPairs.{canonical_form, class_half_size, class_size_of, class_index_of}
 use Rattle.morris_index.specs.ClassMoves.{class_half_start, class_start_of}
-use Rattle.morris_index.specs.EntryRows.{InRow, in_row, IsInRow, StandsIn, opposed, IsHalfRow, IsEntryRow}
+use Rattle.morris_index.specs.EntryRows.{InRow, in_row, IsInRow, StandsIn, opponent_count, IsHalfRow, IsEntryRow}
 use Rattle.morris_index.specs.Standings.{are_of}
-use Rattle.morris_index.proofs.ClassPairLaws.{led_itself, led_alone, index-lt, entry-parts}
+use Rattle.morris_index.proofs.ClassPairLaws.{canonical_itself, canonical_alone, index-lt, entry-parts}
 use Rattle.morris_index.proofs.IndexLaws.{number_outside-count}
 use Rattle.morris_index.proofs.NumberLaws.{numbers_end}
 use Rattle.morris_board.proofs.PositionLaws.{from_between}
@@ -53,7 +53,7 @@ module _ (board : Shape) (n : ℕ) (c : Counts) (pair : IsPair n c) (index own :
   pub first_row : count_of own ≡ c.greater → IsHalfRow board n own c.lesser index numbers → IsEntryRow board n (in_row c index own (length numbers)) numbers
   first_row counted half =
       let test : nat_eq (count_of own) c.greater ≡ true = eq-eqb _ _ counted in
-      let against : opposed c own ≡ c.lesser = rw test refl in
+      let against : opponent_count c own ≡ c.lesser = rw test refl in
       let of : are_of c (count_of own) c.lesser ≡ true = rw (test, eq-eqb c.lesser c.lesser refl) refl in
       record {
         pair = pair;
@@ -66,7 +66,7 @@ module _ (board : Shape) (n : ℕ) (c : Counts) (pair : IsPair n c) (index own :
       → IsHalfRow board n own c.greater (index - class_half_size board n c.greater c.lesser) numbers → IsEntryRow board n (in_row c index own (length numbers)) numbers
   second_row differ counted past half =
       let test : nat_eq (count_of own) c.greater ≡ false = ne_eqb _ _ (λ e. differ (sym e ∙ counted)) in
-      let against : opposed c own ≡ c.greater = rw test refl in
+      let against : opponent_count c own ≡ c.greater = rw test refl in
       let of : are_of c (count_of own) c.greater ≡ true = rw (test, eq-eqb (count_of own) c.lesser counted, eq-eqb c.greater c.greater refl) refl in
       record {
         pair = pair;
@@ -98,7 +98,7 @@ module _ (n : ℕ) (c : Counts) (own other : ℕ) (pair : IsPair n c) (of : are_
 module _ (board : Shape) (n : ℕ) (few : n ≤ 24) (points : board.points ≡ n) (y : HasSymmetries board) (row : InRow) (numbers : List ℕ)
     (k : IsEntryRow board n row numbers) where
   abbrev other_count : ℕ
-  other_count = opposed row.pair row.own
+  other_count = opponent_count row.pair row.own
 
   abbrev index : ℕ
   index = k.first.0
@@ -126,7 +126,7 @@ module _ (board : Shape) (n : ℕ) (few : n ≤ 24) (points : board.points ≡ n
     numbers_fit = listed-fits n (n - count_of row.own) other_count rank (slice_index numbers place) row.own few free ranked
 
     module _ (other : ℕ) (within : other < 2 ^ 24) (apart : (p : ℕ) → has other p ≡ true → has row.own p ≡ false)
-        (is : squeezed_below row.own other 24 ≡ slice_index numbers place) where
+        (is : squeeze_below row.own other 24 ≡ slice_index numbers place) where
       other_ranked : IsRanked n row.own other_count rank other
       other_ranked = spread-ranked n row.own other_count rank (slice_index numbers place) other few (rw free ranked) within apart is
 
@@ -154,9 +154,9 @@ module _ (board : Shape) (n : ℕ) (few : n ≤ 24) (points : board.points ≡ n
 
       row_entry : class_index_of board n row.pair (sides row.own other) ≡ row.first + place
       row_entry =
-          let itself : led board (sides row.own other) ≡ sides row.own other =
-          led_itself board n few points y row.own other half.within other_ranked.within half.least in
-          let ranks : rank_of (map (number_outside (led board (sides row.own other)).own) (members (led board (sides row.own other)).other)) ≡ rank =
+          let itself : canonical_form board (sides row.own other) ≡ sides row.own other =
+          canonical_itself board n few points y row.own other half.within other_ranked.within half.least in
+          let ranks : rank_of (map (number_outside (canonical_form board (sides row.own other)).own) (members (canonical_form board (sides row.own other)).other)) ≡ rank =
           ap (λ (s : Sides). rank_of (map (number_outside s.own) (members s.other))) itself ∙ other_ranked.ranked in
           let starts : class_start_of board n row.pair row.own (count_of other) ≡ class_start_of board n row.pair row.own other_count =
           ap (class_start_of board n row.pair row.own) other_ranked.counted in
@@ -171,37 +171,37 @@ module _ (board : Shape) (n : ℕ) (few : n ≤ 24) (points : board.points ≡ n
       }
 
     -- all positions with the entry are led to the one of the row
-    row_led : (t s : Sides) → IsInRow board n row place t → IsPosition board s → is_of row.pair s ≡ true
-        → class_index_of board n row.pair s ≡ row.first + place → t ≡ led board s
-    row_led t s at lawful of entry =
+    row_canonical : (t s : Sides) → IsInRow board n row place t → IsPosition board s → is_of row.pair s ≡ true
+        → class_index_of board n row.pair s ≡ row.first + place → t ≡ canonical_form board s
+    row_canonical t s at lawful of entry =
         let own_in : t.own < 2 ^ n = subst (λ m. t.own < 2 ^ m) points at.lawful.stones.own_within in
         let other_in : t.other < 2 ^ n = subst (λ m. t.other < 2 ^ m) points at.lawful.stones.other_within in
         let least : representative_of board t.own ≡ t.own = rw at.own half.least in
-        sym (led_itself board n few points y t.own t.other own_in other_in least)
-        ∙ led_alone board n few points y row.pair t s at.lawful lawful at.counts of (at.entry ∙ sym entry)
+        sym (canonical_itself board n few points y t.own t.other own_in other_in least)
+        ∙ canonical_alone board n few points y row.pair t s at.lawful lawful at.counts of (at.entry ∙ sym entry)
 
-    pub row_spread : (other : ℕ) → other < 2 ^ 24 → ((p : ℕ) → has other p ≡ true → has row.own p ≡ false) → squeezed_below row.own other 24 ≡ slice_index numbers place
+    pub row_spread : (other : ℕ) → other < 2 ^ 24 → ((p : ℕ) → has other p ≡ true → has row.own p ≡ false) → squeeze_below row.own other 24 ≡ slice_index numbers place
         → StandsIn board n row place (sides row.own other)
     row_spread other within apart is =
         let at = row_position other within apart is in
-        record { inside = at; led = λ s lawful of entry. row_led (sides row.own other) s at lawful of entry }
+        record { inside = at; canonical_form = λ s lawful of entry. row_canonical (sides row.own other) s at lawful of entry }
 
     -- the free points with these numbers
     abbrev stones : (set : ℕ) × IsSpread row.own (slice_index numbers place) set
     stones = spread_exists row.own (slice_index numbers place) numbers_fit
 
     pub row_stands : (s : Sides) × StandsIn board n row place s
-    row_stands = (sides row.own stones.0, row_spread stones.0 stones.1.within stones.1.apart stones.1.squeezed)
+    row_stands = (sides row.own stones.0, row_spread stones.0 stones.1.within stones.1.apart stones.1.squeeze)
 
-    pub row_numbers : (s : Sides) → IsInRow board n row place s → slice_index numbers place ≡ squeezed_below row.own s.other n
+    pub row_numbers : (s : Sides) → IsInRow board n row place s → slice_index numbers place ≡ squeeze_below row.own s.other n
     row_numbers s at =
         let same : s ≡ sides row.own stones.0 =
-        row_led s s at at.lawful at.counts at.entry ∙ sym ((row_spread stones.0 stones.1.within stones.1.apart stones.1.squeezed).led s at.lawful at.counts at.entry) in
+        row_canonical s s at at.lawful at.counts at.entry ∙ sym ((row_spread stones.0 stones.1.within stones.1.apart stones.1.squeeze).canonical_form s at.lawful at.counts at.entry) in
         let other_in : s.other < 2 ^ n = subst (λ m. s.other < 2 ^ m) points at.lawful.stones.other_within in
         let whole : (24 - n) + n ≡ 24 = omega arith in
-        sym stones.1.squeezed
-        ∙ ap (λ (t : Sides). squeezed_below row.own t.other 24) (sym same)
-        ∙ ap (squeezed_below row.own s.other) (sym whole)
+        sym stones.1.squeeze
+        ∙ ap (λ (t : Sides). squeeze_below row.own t.other 24) (sym same)
+        ∙ ap (squeeze_below row.own s.other) (sym whole)
         ∙ numbers_end row.own s.other n (24 - n) other_in
 
   pub row_inside : row.first + row.len ≤ class_size_of board n row.pair

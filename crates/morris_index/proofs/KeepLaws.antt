@@ -8,8 +8,8 @@ use Rattle.morris_board.specs.Symmetries.{HasSymmetries}
 use Rattle.morris_board.proofs.PointsLaws.{has-none}
 use Rattle.morris_index.specs.Binomials.{choose}
 use Rattle.morris_index.specs.Numbering.{IsRanked}
-use Rattle.morris_index.specs.Classes.{representative_of, is_representative, classes_below, class_of, class_count, AreLeading, IsKept, IsClasses, classes_in, leading_in}
-use Rattle.morris_index.specs.declared.classes.Lead.{Lead}
+use Rattle.morris_index.specs.Classes.{representative_of, is_representative, classes_below, class_of, class_count, AreCanonicalizing, IsClassTable, IsClasses, classes_in, canonicalizing_in}
+use Rattle.morris_index.specs.declared.classes.SetClass.{SetClass}
 use Rattle.morris_index.proofs.BinomialTable.{choose_small}
 use Rattle.morris_index.proofs.IndexLaws.{number_outside-none, rank_outside-lt, rank_outside-same}
 use Rattle.morris_index.proofs.OrderLaws.{rank_at, rank_less, mask_less}
@@ -63,13 +63,13 @@ module _ (board : Shape) (n count : ℕ) (low : n ≤ 24) (points : board.points
   on_board set h = subst (λ k. set < 2 ^ k) (sym points) h
 
   -- before the first set
-  pub kept-none : IsKept board n count 0 [] [] []
-  kept-none = record {
+  pub table-none : IsClassTable board n count 0 [] [] []
+  table-none = record {
     classes_len = refl;
-    leading_len = refl;
+    canonicalizing_len = refl;
     few = omega arith;
     class = λ r s h. absurd (omega arith);
-    leads = λ r s h. absurd (omega arith);
+    set_classes = λ r s h. absurd (omega arith);
     listed = λ k h. absurd (omega arith);
     whole = λ mask le f g. none_below board count mask (λ s less. elim (cases_eq (count_of s) count) [
       | inl e ↦ absurd (omega (arith, f (rank_at s) s (ranked n count s (omega arith) e) less))
@@ -95,8 +95,8 @@ module _ (board : Shape) (n count : ℕ) (low : n ≤ 24) (points : board.points
           | inr d ↦ test_count board count s d
         ])
 
-  module _ (rank set : ℕ) (here : IsRanked n 0 count rank set) (classes leading representatives : List ℕ)
-      (before : IsKept board n count rank classes leading representatives) where
+  module _ (rank set : ℕ) (here : IsRanked n 0 count rank set) (classes canonicalizing representatives : List ℕ)
+      (before : IsClassTable board n count rank classes canonicalizing representatives) where
     small : set < 2 ^ board.points
     small = on_board set here.within
 
@@ -138,16 +138,16 @@ module _ (board : Shape) (n count : ℕ) (low : n ≤ 24) (points : board.points
       | inr d ↦ subst (is s) (sym (get_or_append_left list (x ∷ []) 0 r (omega arith))) (old r s (omega arith) h)
     ]
 
-    module _ (ways : ℕ) (ways_are : AreLeading board set ways) where
+    module _ (ways : ℕ) (ways_are : AreCanonicalizing board set ways) where
       -- the set is a representative
-      pub kept-new : other ≡ set
-          → IsKept board n count (rank + 1) (classes ++ length representatives ∷ []) (leading ++ ways ∷ []) (representatives ++ set ∷ [])
-      kept-new own = record {
+      pub table-new : other ≡ set
+          → IsClassTable board n count (rank + 1) (classes ++ length representatives ∷ []) (canonicalizing ++ ways ∷ []) (representatives ++ set ∷ [])
+      table-new own = record {
         classes_len = omega (arith, before.classes_len, length-append classes (length representatives ∷ []));
-        leading_len = omega (arith, before.leading_len, length-append leading (ways ∷ []));
+        canonicalizing_len = omega (arith, before.canonicalizing_len, length-append canonicalizing (ways ∷ []));
         few = omega (arith, before.few, length-append representatives (set ∷ []));
         class = entered (λ t x. x ≡ class_of board t) classes (length representatives) before.classes_len (own_class own) before.class;
-        leads = entered (AreLeading board) leading ways before.leading_len ways_are before.leads;
+        set_classes = entered (AreCanonicalizing board) canonicalizing ways before.canonicalizing_len ways_are before.set_classes;
         listed = λ k less. elim (cases_eq k (length representatives)) [
           | inl e ↦
               let at : get_or (representatives ++ set ∷ []) k 0 ≡ set = get_or_push representatives set 0 k (sym e) in
@@ -166,29 +166,29 @@ module _ (board : Shape) (n count : ℕ) (low : n ≤ 24) (points : board.points
           is_new own = test_from board count set own here.counted
 
       -- it isn't: its class is that of its representative
-      pub kept-other : (other ≡ set → ⊥)
-          → IsKept board n count (rank + 1) (classes ++ get_or classes (rank_at other) 0 ∷ []) (leading ++ ways ∷ []) representatives
-      kept-other d = record {
+      pub table-other : (other ≡ set → ⊥)
+          → IsClassTable board n count (rank + 1) (classes ++ get_or classes (rank_at other) 0 ∷ []) (canonicalizing ++ ways ∷ []) representatives
+      table-other d = record {
         classes_len = omega (arith, before.classes_len, length-append classes (get_or classes (rank_at other) 0 ∷ []));
-        leading_len = omega (arith, before.leading_len, length-append leading (ways ∷ []));
+        canonicalizing_len = omega (arith, before.canonicalizing_len, length-append canonicalizing (ways ∷ []));
         few = omega (arith, before.few);
         class = entered (λ t x. x ≡ class_of board t) classes (get_or classes (rank_at other) 0) before.classes_len (other_class d) before.class;
-        leads = entered (AreLeading board) leading ways before.leading_len ways_are before.leads;
+        set_classes = entered (AreCanonicalizing board) canonicalizing ways before.canonicalizing_len ways_are before.set_classes;
         listed = before.listed;
         whole = λ mask le f g. beyond rank set here mask le f g ∙ no_more board count set (test_other board count set d) ∙ below_is;
       }
 
   -- ---- all sets
 
-  module _ (classes leading representatives : List ℕ) (all : IsClasses board n count classes leading representatives) where
+  module _ (classes canonicalizing representatives : List ℕ) (all : IsClasses board n count classes canonicalizing representatives) where
     pub class_count-is : class_count board count ≡ length representatives
     unfolding class_count
     class_count-is =
         ap (λ k. classes_below board count (2 ^ k)) points
-        ∙ all.kept.whole (2 ^ n) (omega arith) (λ r s h less. omega (arith, h.ranked, rank_lt n count low s h.within h.counted)) (λ r s h less. h.within)
+        ∙ all.table.whole (2 ^ n) (omega arith) (λ r s h less. omega (arith, h.ranked, rank_lt n count low s h.within h.counted)) (λ r s h less. h.within)
 
     pub classes_few : length representatives < 2 ^ 32
-    classes_few = omega (arith, all.few, all.kept.few, choose_small n count (omega arith) (omega (arith, all.few)))
+    classes_few = omega (arith, all.few, all.table.few, choose_small n count (omega arith) (omega (arith, all.few)))
 
     module _ (set : ℕ) (within : set < 2 ^ n) (counted : count_of set ≡ count) where
       here : IsRanked n 0 count (rank_at set) set
@@ -198,10 +198,10 @@ module _ (board : Shape) (n count : ℕ) (low : n ≤ 24) (points : board.points
       rank_in = rank_lt n count low set within counted
 
       pub class_at : get_or classes (rank_at set) 0 ≡ class_of board set
-      class_at = all.kept.class (rank_at set) set rank_in here
+      class_at = all.table.class (rank_at set) set rank_in here
 
-      pub leads_at : AreLeading board set (get_or leading (rank_at set) 0)
-      leads_at = all.kept.leads (rank_at set) set rank_in here
+      pub leads_at : AreCanonicalizing board set (get_or canonicalizing (rank_at set) 0)
+      leads_at = all.table.set_classes (rank_at set) set rank_in here
 
       pub class_of-lt : class_of board set < class_count board count
       unfolding class_of class_count
@@ -227,7 +227,7 @@ module _ (board : Shape) (n count : ℕ) (low : n ≤ 24) (points : board.points
       found = get_or representatives class 0
 
       is_listed : (is_representative board count found ≡ true) × (found < 2 ^ n) × (classes_below board count found ≡ class)
-      is_listed = all.kept.listed class (omega (arith, class_count-is))
+      is_listed = all.table.listed class (omega (arith, class_count-is))
 
       pub found_is : IsFound board n count class found
       unfolding class_of
@@ -237,34 +237,34 @@ module _ (board : Shape) (n count : ℕ) (low : n ≤ 24) (points : board.points
 
   -- ---- what is kept of one set
 
-  module _ (leads : List Lead) (representatives : List ℕ) (all : IsClasses board n count (classes_in leads) (leading_in leads) representatives)
+  module _ (set_classes : List SetClass) (representatives : List ℕ) (all : IsClasses board n count (classes_in set_classes) (canonicalizing_in set_classes) representatives)
       (set rank : ℕ) (within : set < 2 ^ n) (counted : count_of set ≡ count) (is : rank ≡ rank_at set) where
-    pub lead_in : rank < length leads
+    pub lead_in : rank < length set_classes
     lead_in =
         omega (
           arith,
           is,
-          rank_in (classes_in leads) (leading_in leads) representatives all set within counted,
-          all.kept.classes_len,
-          length-map leads (λ (lead : Lead). lead.class),
+          rank_in (classes_in set_classes) (canonicalizing_in set_classes) representatives all set within counted,
+          all.table.classes_len,
+          length-map set_classes (λ (set_class : SetClass). set_class.class),
         )
 
-    module _ (lead : Lead) (here : lead ≡ get_or leads rank lead) where
-      pub lead_class : lead.class ≡ class_of board set
+    module _ (set_class : SetClass) (here : set_class ≡ get_or set_classes rank set_class) where
+      pub lead_class : set_class.class ≡ class_of board set
       lead_class =
-          ap (λ (l : Lead). l.class) here
-          ∙ sym (get_or-map (λ (l : Lead). l.class) leads rank lead 0 lead_in)
-          ∙ ap (λ r. get_or (classes_in leads) r 0) is
-          ∙ class_at (classes_in leads) (leading_in leads) representatives all set within counted
+          ap (λ (l : SetClass). l.class) here
+          ∙ sym (get_or-map (λ (l : SetClass). l.class) set_classes rank set_class 0 lead_in)
+          ∙ ap (λ r. get_or (classes_in set_classes) r 0) is
+          ∙ class_at (classes_in set_classes) (canonicalizing_in set_classes) representatives all set within counted
 
-      pub lead_leads : AreLeading board set lead.leading
+      pub lead_leads : AreCanonicalizing board set set_class.canonicalizing
       lead_leads =
-          subst (AreLeading board set)
-          (sym (ap (λ (l : Lead). l.leading) here
-          ∙ sym (get_or-map (λ (l : Lead). l.leading) leads rank lead 0 lead_in)
-          ∙ ap (λ r. get_or (leading_in leads) r 0) is))
-          (leads_at (classes_in leads) (leading_in leads) representatives all set within counted)
+          subst (AreCanonicalizing board set)
+          (sym (ap (λ (l : SetClass). l.canonicalizing) here
+          ∙ sym (get_or-map (λ (l : SetClass). l.canonicalizing) set_classes rank set_class 0 lead_in)
+          ∙ ap (λ r. get_or (canonicalizing_in set_classes) r 0) is))
+          (leads_at (classes_in set_classes) (canonicalizing_in set_classes) representatives all set within counted)
 
 -- the class that is kept at a rank
-pub class_in : (leads : List Lead) (rank : ℕ) (lead : Lead) → rank < length leads → lead ≡ get_or leads rank lead → lead.class ≡ get_or (classes_in leads) rank 0
-class_in leads rank lead low here = ap (λ (l : Lead). l.class) here ∙ sym (get_or-map (λ (l : Lead). l.class) leads rank lead 0 low)
+pub class_in : (set_classes : List SetClass) (rank : ℕ) (set_class : SetClass) → rank < length set_classes → set_class ≡ get_or set_classes rank set_class → set_class.class ≡ get_or (classes_in set_classes) rank 0
+class_in set_classes rank set_class low here = ap (λ (l : SetClass). l.class) here ∙ sym (get_or-map (λ (l : SetClass). l.class) set_classes rank set_class 0 low)

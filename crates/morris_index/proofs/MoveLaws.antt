@@ -10,7 +10,7 @@ use Rattle.morris_index.specs.Binomials.{choose}
 use Rattle.morris_index.specs.Numbering.{rank_of, number_outside, half_index}
 use Rattle.morris_index.specs.Pairs.{Counts, IsPair, IsHalf, index_of}
 use Rattle.morris_index.specs.Sums.{AreKept, moved_end, renumbered_end}
-use Rattle.morris_index.specs.Moves.{taken_back, moved_on, start_of, end_taken_back}
+use Rattle.morris_index.specs.Moves.{unmove_sides, move_sides, start_of, end_taken_back}
 use Rattle.morris_index.specs.declared.sums.KeptSums.{KeptSums}
 use Rattle.std.proofs.Math.Nat.{add-mul, pow-le-pow_right}
 use Rattle.morris_index.proofs.ChooseLaws.{choose-le}
@@ -95,10 +95,10 @@ index-parts n c p = elim (cases_eq (count_of p.own) c.greater) [
 
 module _ (n : ℕ) (low : n ≤ 24) (c : Counts) (s : Sides) (placed : IsPlaced n s) (own_few : count_of s.own ≤ 9) (other_few : count_of s.other ≤ 9) (u v : ℕ)
     (u_in : u < n) (free_own : has s.own u ≡ false) (free_other : has s.other u ≡ false) (here : has s.other v ≡ true) where
-  pub before_count : count_of (taken_back s u v).own ≡ count_of s.other
+  pub before_count : count_of (unmove_sides s u v).own ≡ count_of s.other
   before_count = count_of-moved s.other u v n placed.other_within (omega arith) free_other here u_in
 
-  pub before_placed : IsPlaced n (taken_back s u v)
+  pub before_placed : IsPlaced n (unmove_sides s u v)
   before_placed = record {
     own_within = moved-lt s.other u v n placed.other_within (omega arith) free_other here u_in;
     other_within = placed.own_within;
@@ -113,15 +113,15 @@ module _ (n : ℕ) (low : n ≤ 24) (c : Counts) (s : Sides) (placed : IsPlaced 
 
   -- what the code adds up
   abbrev pub before_sum : ℕ
-  before_sum = rank_of (map (number_outside 0) (members (taken_back s u v).own)) * choose (n - count_of s.other) (count_of s.own)
-      + rank_of (map (number_outside (taken_back s u v).own) (members s.own))
+  before_sum = rank_of (map (number_outside 0) (members (unmove_sides s u v).own)) * choose (n - count_of s.other) (count_of s.own)
+      + rank_of (map (number_outside (unmove_sides s u v).own) (members s.own))
 
-  before_half : before_sum ≡ half_index n (taken_back s u v)
+  before_half : before_sum ≡ half_index n (unmove_sides s u v)
   unfolding half_index
-  before_half = rw (map_number-none (members (taken_back s u v).own), before_count) refl
+  before_half = rw (map_number-none (members (unmove_sides s u v).own), before_count) refl
 
-  pub before_index : start_of n c (count_of s.other) + before_sum ≡ index_of n c (taken_back s u v)
-  before_index = sym (index-parts n c (taken_back s u v) ∙ ap₂ (λ k h. start_of n c k + h) before_count (sym before_half))
+  pub before_index : start_of n c (count_of s.other) + before_sum ≡ index_of n c (unmove_sides s u v)
+  before_index = sym (index-parts n c (unmove_sides s u v) ∙ ap₂ (λ k h. start_of n c k + h) before_count (sym before_half))
 
 -- ---- the position before it, by what its two points come to
 
@@ -178,34 +178,34 @@ module _ (n : ℕ) (low : n ≤ 24) (c : Counts) (s : Sides) (placed : IsPlaced 
   v_in = point_lt s.other n v placed.other_within here
 
   -- the parts of an index that are found for a stone that is taken back to u
-  grown : (x x' y y' : ℕ) → rank_of (map (number_outside 0) (members (taken_back s u v).own)) + x' ≡ mover.rank + x
-      → rank_of (map (number_outside (taken_back s u v).own) (members s.own)) + y' ≡ waiting.rank + y
-      → index_of n c (taken_back s u v) + (x' * choose (n - count_of s.other) (count_of s.own) + y')
+  grown : (x x' y y' : ℕ) → rank_of (map (number_outside 0) (members (unmove_sides s u v).own)) + x' ≡ mover.rank + x
+      → rank_of (map (number_outside (unmove_sides s u v).own) (members s.own)) + y' ≡ waiting.rank + y
+      → index_of n c (unmove_sides s u v) + (x' * choose (n - count_of s.other) (count_of s.own) + y')
       ≡ index_of n c (sides s.other s.own) + (x * choose (n - count_of s.other) (count_of s.own) + y)
   grown x x' y y' e f =
       omega (
         arith,
-        both_grow (choose (n - count_of s.other) (count_of s.own)) (rank_of (members s.other)) (rank_of (map (number_outside 0) (members (taken_back s u v).own))) x x'
-            (rank_of (map (number_outside s.other) (members s.own))) (rank_of (map (number_outside (taken_back s u v).own) (members s.own))) y y'
+        both_grow (choose (n - count_of s.other) (count_of s.own)) (rank_of (members s.other)) (rank_of (map (number_outside 0) (members (unmove_sides s u v).own))) x x'
+            (rank_of (map (number_outside s.other) (members s.own))) (rank_of (map (number_outside (unmove_sides s u v).own) (members s.own))) y y'
             (e ∙ ap (λ r. r + x) (turned_rank n low s placed own_few other_few mover moved)) (f ∙ ap (λ r. r + y) (turned_within n low s placed own_few other_few waiting renumbered)),
         before_index n low c s placed own_few other_few u v u_in free_own free_other here,
         turned_index n low s placed own_few other_few c,
       )
 
-  lower_index : u < v → index_of n c (taken_back s u v) + end_taken_back true n s v ≡ index_of n c (sides s.other s.own) + end_taken_back true n s u
+  lower_index : u < v → index_of n c (unmove_sides s u v) + end_taken_back true n s v ≡ index_of n c (sides s.other s.own) + end_taken_back true n s u
   lower_index down =
       grown (moved_end true 0 s.other u) (moved_end true 0 s.other v) (renumbered_end true s.other s.own u) (renumbered_end true s.other s.own v)
       (rank_down 0 s.other u v (within_24 s.other n placed.other_within low) free_other here (omega arith) (omega (arith, v_in)) mover moved down)
       (renumbered_down s.other s.own u v (within_24 s.own n placed.own_within low) placed.apart free_other here free_own (omega arith) (omega (arith, v_in)) waiting renumbered down)
 
-  higher_index : v < u → index_of n c (taken_back s u v) + end_taken_back false n s v ≡ index_of n c (sides s.other s.own) + end_taken_back false n s u
+  higher_index : v < u → index_of n c (unmove_sides s u v) + end_taken_back false n s v ≡ index_of n c (sides s.other s.own) + end_taken_back false n s u
   higher_index up =
       grown (moved_end false 0 s.other u) (moved_end false 0 s.other v) (renumbered_end false s.other s.own u) (renumbered_end false s.other s.own v)
       (rank_up 0 s.other u v (within_24 s.other n placed.other_within low) free_other here (omega arith) (omega (arith, v_in)) mover moved up)
       (renumbered_up s.other s.own u v (within_24 s.own n placed.own_within low) placed.apart free_other here free_own (omega arith) (omega (arith, v_in)) waiting renumbered up)
 
   pub end_index : (lower : Bool) → ltb u v ≡ lower
-      → index_of n c (taken_back s u v) + end_taken_back lower n s v ≡ index_of n c (sides s.other s.own) + end_taken_back lower n s u
+      → index_of n c (unmove_sides s u v) + end_taken_back lower n s v ≡ index_of n c (sides s.other s.own) + end_taken_back lower n s u
   end_index true h = lower_index (ltb-true u v h)
   end_index false h = higher_index (differ s.other u v free_other here (ltb-false u v h))
 
@@ -213,14 +213,14 @@ module _ (n : ℕ) (low : n ≤ 24) (c : Counts) (s : Sides) (placed : IsPlaced 
 
 module _ (n : ℕ) (low : n ≤ 24) (c : Counts) (s : Sides) (placed : IsPlaced n s) (own_few : count_of s.own ≤ 9) (other_few : count_of s.other ≤ 9) (u v : ℕ)
     (v_in : v < n) (free_own : has s.own v ≡ false) (free_other : has s.other v ≡ false) (here : has s.own u ≡ true) where
-  pub after_count : count_of (moved_on s u v).other ≡ count_of s.own
+  pub after_count : count_of (move_sides s u v).other ≡ count_of s.own
   after_count = count_of-moved s.own v u n placed.own_within (omega arith) free_own here v_in
 
-  pub after_placed : IsPlaced n (moved_on s u v)
+  pub after_placed : IsPlaced n (move_sides s u v)
   after_placed = record {
     own_within = placed.other_within;
     other_within = moved-lt s.own v u n placed.own_within (omega arith) free_own here v_in;
-    apart = λ p y. elim (cases_Bool (has (moved_on s u v).other p)) [
+    apart = λ p y. elim (cases_Bool (has (move_sides s u v).other p)) [
       | inr x ↦ x
       | inl x ↦ elim (moved-cases s.own v u n placed.own_within (omega arith) free_own here v_in p x) [
         | inl e ↦ absurd (both_ways (has s.other p) (ap (has s.other) e ∙ free_other) y)
@@ -231,17 +231,17 @@ module _ (n : ℕ) (low : n ≤ 24) (c : Counts) (s : Sides) (placed : IsPlaced 
 
   -- what the code adds up
   abbrev pub after_sum : ℕ
-  after_sum = rank_of (members s.other) * choose (n - count_of s.other) (count_of s.own) + rank_of (map (number_outside s.other) (members (moved_on s u v).other))
+  after_sum = rank_of (members s.other) * choose (n - count_of s.other) (count_of s.own) + rank_of (map (number_outside s.other) (members (move_sides s u v).other))
 
-  after_half : after_sum ≡ half_index n (moved_on s u v)
+  after_half : after_sum ≡ half_index n (move_sides s u v)
   unfolding half_index
   after_half = rw after_count refl
 
   pub after_few : after_sum < 1307504 * 1307504
-  after_few = rw after_half (half_index-few n (moved_on s u v) low after_placed other_few (rw after_count own_few))
+  after_few = rw after_half (half_index-few n (move_sides s u v) low after_placed other_few (rw after_count own_few))
 
-  pub after_index : start_of n c (count_of s.other) + after_sum ≡ index_of n c (moved_on s u v)
-  after_index = sym (index-parts n c (moved_on s u v) ∙ ap (λ h. start_of n c (count_of s.other) + h) (sym after_half))
+  pub after_index : start_of n c (count_of s.other) + after_sum ≡ index_of n c (move_sides s u v)
+  after_index = sym (index-parts n c (move_sides s u v) ∙ ap (λ h. start_of n c (count_of s.other) + h) (sym after_half))
 
 pub regrouped : (a b c : ℕ) → a + b + c ≡ a + (b + c)
 regrouped a b c = omega arith

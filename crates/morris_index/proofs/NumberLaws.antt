@@ -7,34 +7,34 @@ use Rattle.morris_board.specs.Sets.{has, members, count_of}
 use Rattle.morris_board.proofs.PointsLaws.{has-above}
 use Rattle.morris_index.specs.Numbering.{number_outside}
 use Rattle.morris_index.specs.Sums.{total}
-use Rattle.morris_index.specs.Parts.{weight, squeezed_below}
+use Rattle.morris_index.specs.Parts.{bit_of_number, squeeze_below}
 use Rattle.morris_index.proofs.RankLaws.{passing, passing-yes, passing-no, members-passing, number-zero, number-outside, number-inside, number-count}
 use Rattle.morris_index.proofs.Moving.{total-suc}
 use Rattle.morris_index.proofs.Following.{passing-same}
-use Rattle.morris_index.proofs.Squeezing.{squeezed-is, has-top, has-rest}
+use Rattle.morris_index.proofs.Squeezing.{squeeze-is, has-top, has-rest}
 use Rattle.morris_index.proofs.Spreading.{number-le}
 
 module _ (outside set : ℕ) (apart : (p : ℕ) → has set p ≡ true → has outside p ≡ false) where
   abbrev numbers : ℕ → ℕ
-  numbers n = squeezed_below outside set n
+  numbers n = squeeze_below outside set n
 
   abbrev number : ℕ → ℕ
   number n = number_outside outside n
 
   within : (n : ℕ) → numbers n < 2 ^ number n
-  within n = (squeezed-is outside set apart n).within
+  within n = (squeeze-is outside set apart n).within
 
   without_point : (n : ℕ) → has set n ≡ false → numbers (suc n) ≡ numbers n
-  unfolding squeezed_below
+  unfolding squeeze_below
   without_point n none =
-      let here : weight outside set n ≡ 0 = rw none refl in
-      omega (arith, total-suc (weight outside set) n, here)
+      let here : bit_of_number outside set n ≡ 0 = rw none refl in
+      omega (arith, total-suc (bit_of_number outside set) n, here)
 
   with_point : (n : ℕ) → has set n ≡ true → numbers (suc n) ≡ numbers n + 2 ^ number n
-  unfolding squeezed_below
+  unfolding squeeze_below
   with_point n y =
-      let here : weight outside set n ≡ 2 ^ number n = rw (y, apart n y) refl in
-      omega (arith, total-suc (weight outside set) n, here)
+      let here : bit_of_number outside set n ≡ 2 ^ number n = rw (y, apart n y) refl in
+      omega (arith, total-suc (bit_of_number outside set) n, here)
 
   -- free points have numbers in their order
   number_lt : (v n : ℕ) → v < n → has outside v ≡ false → number v < number n
@@ -90,11 +90,11 @@ module _ (outside set : ℕ) (apart : (p : ℕ) → has set p ≡ true → has o
   numbers_count n low set_within = ap length (numbers_members n low set_within) ∙ length-map (members set) (number_outside outside)
 
 -- points past the set add no numbers
-pub numbers_end : (outside set n k : ℕ) → set < 2 ^ n → squeezed_below outside set (k + n) ≡ squeezed_below outside set n
-unfolding squeezed_below
-numbers_end outside set n zero within = let e : 0 + n ≡ n = omega arith in ap (squeezed_below outside set) e
+pub numbers_end : (outside set n k : ℕ) → set < 2 ^ n → squeeze_below outside set (k + n) ≡ squeeze_below outside set n
+unfolding squeeze_below
+numbers_end outside set n zero within = let e : 0 + n ≡ n = omega arith in ap (squeeze_below outside set) e
 numbers_end outside set n (suc k) within =
     let e : suc k + n ≡ suc (k + n) = omega arith in
     let none : has set (k + n) ≡ false = has-above set n (k + n) within (omega arith) in
-    let here : weight outside set (k + n) ≡ 0 = rw none refl in
-    omega (arith, ap (total (weight outside set)) e, total-suc (weight outside set) (k + n), here, numbers_end outside set n k within)
+    let here : bit_of_number outside set (k + n) ≡ 0 = rw none refl in
+    omega (arith, ap (total (bit_of_number outside set)) e, total-suc (bit_of_number outside set) (k + n), here, numbers_end outside set n k within)

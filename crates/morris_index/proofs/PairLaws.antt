@@ -5,11 +5,11 @@ use Rattle.std.specs.Result.{result_ok}
 use Rattle.morris_board.specs.Sets.{count_of}
 use Rattle.morris_board.specs.Positions.{Sides, is_between, is_sized}
 use Rattle.morris_board.proofs.PositionLaws.{from_between, own_count}
-use Rattle.morris_index.specs.Pairs.{Counts, IsPair, is_pair, pair_made, pair_of}
+use Rattle.morris_index.specs.Pairs.{Counts, IsPair, is_pair, make_pair, pair_of}
 
 -- a position's numbers of stones make a pair, but for two own stones
 pub ok-pair_made : (n : ℕ) (s : Sides) → is_sized s ≡ true → count_of s.own + count_of s.other ≤ n
-    → result_ok (pair_made n (count_of s.own) (count_of s.other)) ≡ pair_of s
+    → result_ok (make_pair n (count_of s.own) (count_of s.other)) ≡ pair_of s
 ok-pair_made n s sized fits = elim (cases_eq (count_of s.own) 2) [
   | inl e ↦ rw e refl
   | inr d ↦

@@ -8,18 +8,18 @@ use Rattle.std.proofs.lemmas.Bool.{cases_lt, eq-eqb, ne_eqb, le-leb, lt-leb, lt-
 use Rattle.std.proofs.lemmas.List.Elements.{Contains-append_left, Contains-append_right}
 use Rattle.morris_board.specs.Sets.{count_of}
 use Rattle.morris_board.specs.Positions.{Sides}
-use Rattle.morris_index.specs.Pairs.{Counts, counts, IsPair, pair_of, has_counts, is_of, less_lesser, less_greater, needed}
+use Rattle.morris_index.specs.Pairs.{Counts, counts, IsPair, pair_of, has_counts, is_of, less_lesser, less_greater, all_needs}
 use Rattle.morris_index.proofs.IndexLaws.{halves_of, is_of-first, is_of-second}
 
 only : (c : Counts) → Contains (c ∷ []) c
 only c = (0, lit< tt, refl)
 
-less_lesser_in : (c : Counts) → 3 < c.lesser → Contains (needed c) (counts c.greater (c.lesser - 1))
+less_lesser_in : (c : Counts) → 3 < c.lesser → Contains (all_needs c) (counts c.greater (c.lesser - 1))
 less_lesser_in c h =
     Contains-append_left (option_to_list (less_lesser c)) (option_to_list (less_greater c)) (counts c.greater (c.lesser - 1))
     (rw (lt-ltb 3 c.lesser h) (only (counts c.greater (c.lesser - 1))))
 
-less_greater_in : (c : Counts) → c.lesser < c.greater → Contains (needed c) (counts (c.greater - 1) c.lesser)
+less_greater_in : (c : Counts) → c.lesser < c.greater → Contains (all_needs c) (counts (c.greater - 1) c.lesser)
 less_greater_in c h =
     Contains-append_right (option_to_list (less_lesser c)) (option_to_list (less_greater c)) (counts (c.greater - 1) c.lesser)
     (rw (lt-ltb c.lesser c.greater h) (only (counts (c.greater - 1) c.lesser)))
@@ -51,7 +51,7 @@ is_of-quiet c s t of own other = elim (halves_of c s of) [
 -- one needs
 pub is_of-capture : (n : ℕ) (c : Counts) (s t : Sides) → IsPair n c → is_of c s ≡ true
     → suc (count_of t.own) ≡ count_of s.other → count_of t.other ≡ count_of s.own
-    → (count_of t.own ≡ 2) ⊎ ((d : Counts) × Contains (needed c) d × (is_of d t ≡ true))
+    → (count_of t.own ≡ 2) ⊎ ((d : Counts) × Contains (all_needs c) d × (is_of d t ≡ true))
 is_of-capture n c s t h of own other = elim (halves_of c s of) [
   | inl y ↦ elim (cases_lt 3 c.lesser) [
     | inl more ↦ inr (

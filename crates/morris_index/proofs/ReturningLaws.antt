@@ -5,12 +5,12 @@ use Rattle.std.proofs.lemmas.List.{get_or_push, get_or_append_left}
 use Rattle.morris_board.specs.Boards.{Shape}
 use Rattle.morris_board.specs.Sets.{count_of}
 use Rattle.morris_index.specs.Classes.{representative_of, class_of}
-use Rattle.morris_index.specs.Carried.{AreReturning, AreReturningKept}
+use Rattle.morris_index.specs.Unmoves.{IsTransversal, AreTransversals}
 use Rattle.morris_index.proofs.ClassLaws.{test_from, class_alone}
 
 module _ (board : Shape) (n count : ℕ) where
-  pub returning-none : AreReturningKept board n count 0 []
-  returning-none = record {
+  pub transversal-none : AreTransversals board n count 0 []
+  transversal-none = record {
     len = omega arith;
     each = λ set within counted own low. absurd (omega arith);
   }
@@ -22,17 +22,17 @@ module _ (board : Shape) (n count : ℕ) where
       class_alone board count a b (test_from board count a a_own a_count) (test_from board count b b_own b_count)
       (rw (a_count, b_count, a_own, b_own) at same)
 
-  pub returning-more : (class set : ℕ) (x : ℕ) (kept : List ℕ) → AreReturningKept board n count class kept → count_of set ≡ count
-      → representative_of board set ≡ set → class_of board set ≡ class → AreReturning board set x → AreReturningKept board n count (class + 1) (kept ++ x ∷ [])
-  returning-more class set x kept k counted own is returns = record {
-    len = omega (arith, length-append kept (x ∷ []), k.len);
+  pub transversal-more : (class set : ℕ) (x : ℕ) (table : List ℕ) → AreTransversals board n count class table → count_of set ≡ count
+      → representative_of board set ≡ set → class_of board set ≡ class → IsTransversal board set x → AreTransversals board n count (class + 1) (table ++ x ∷ [])
+  transversal-more class set x table k counted own is returns = record {
+    len = omega (arith, length-append table (x ∷ []), k.len);
     each = λ t within t_counted t_own low d. elim (cases_eq (class_of board t) class) [
       | inl e ↦
           let same : t ≡ set = alone t set t_counted counted t_own own (e ∙ sym is) in
-          subst (AreReturning board t) (sym (get_or_push kept x d (class_of board t) (k.len ∙ sym e)))
-          (subst (λ r. AreReturning board r x) (sym same) returns)
+          subst (IsTransversal board t) (sym (get_or_push table x d (class_of board t) (k.len ∙ sym e)))
+          (subst (λ r. IsTransversal board r x) (sym same) returns)
       | inr other ↦
-          subst (AreReturning board t) (sym (get_or_append_left kept (x ∷ []) d (class_of board t) (omega (arith, k.len))))
+          subst (IsTransversal board t) (sym (get_or_append_left table (x ∷ []) d (class_of board t) (omega (arith, k.len))))
           (k.each t within t_counted t_own (omega arith) d)
     ];
   }

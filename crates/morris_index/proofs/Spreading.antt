@@ -11,18 +11,18 @@ use Rattle.morris_board.proofs.SetLaws.{point_lt, lt_from_points}
 use Rattle.morris_board.proofs.PointsLaws.{has-above}
 use Rattle.morris_index.specs.Numbering.{rank_of, number_outside, IsRanked}
 use Rattle.morris_index.specs.Sums.{total}
-use Rattle.morris_index.specs.Parts.{weight, squeezed_below}
+use Rattle.morris_index.specs.Parts.{bit_of_number, squeeze_below}
 use Rattle.morris_index.proofs.ChooseLaws.{pow-pos}
 use Rattle.morris_index.proofs.RankLaws.{count_below, count-yes, count-no, count_more, number-zero, number-outside, number-inside, number-count}
 use Rattle.morris_index.proofs.Moving.{total-zero, total-suc, alike}
 use Rattle.morris_index.proofs.SetLaws.{count_of-below}
-use Rattle.morris_index.proofs.Squeezing.{mask-none, squeezed-is, squeezed-rank}
+use Rattle.morris_index.proofs.Squeezing.{mask-none, squeeze-is, squeeze-rank}
 
 -- The points of the set below b are gone through: numbers stand at the free points below b, and the
 -- others follow from b on.
 pub record IsSpreading (outside numbers b x : ℕ) : Type 0 where
   pub apart : (p : ℕ) → p < b → has x p ≡ true → has outside p ≡ false
-  pub split : squeezed_below outside x b + x / 2 ^ b * 2 ^ number_outside outside b ≡ numbers
+  pub split : squeeze_below outside x b + x / 2 ^ b * 2 ^ number_outside outside b ≡ numbers
 
 pub spreading-start : (outside numbers : ℕ) → IsSpreading outside numbers 0 numbers
 spreading-start outside numbers = record {
@@ -40,9 +40,9 @@ bit_no : (x b : ℕ) → has x b ≡ false → x / 2 ^ b % 2 ≡ 0
 unfolding has
 bit_no x b h = let other = eqb-false (x / 2 ^ b % 2) 1 h in omega arith
 
-squeezed-suc : (outside x b : ℕ) → squeezed_below outside x (suc b) ≡ squeezed_below outside x b + weight outside x b
-unfolding squeezed_below
-squeezed-suc outside x b = total-suc (weight outside x) b
+squeeze-suc : (outside x b : ℕ) → squeeze_below outside x (suc b) ≡ squeeze_below outside x b + bit_of_number outside x b
+unfolding squeeze_below
+squeeze-suc outside x b = total-suc (bit_of_number outside x) b
 
 twice : (b : ℕ) → 2 ^ suc b ≡ 2 ^ b * 2
 twice b = let e : suc b ≡ b + 1 = omega arith in ap (λ k. 2 ^ k) e ∙ pow-add 2 b 1
@@ -64,7 +64,7 @@ module _ (outside numbers b x : ℕ) (s : IsSpreading outside numbers b x) where
     split =
         omega (
           arith,
-          squeezed-suc outside x b,
+          squeeze-suc outside x b,
           here,
           ap (λ k. k * 2 ^ number_outside outside (suc b)) half,
           ap (λ k. (rest / 2) * k) (ap (λ k. 2 ^ k) (number-outside outside b free) ∙ twice (number_outside outside b)),
@@ -79,10 +79,10 @@ module _ (outside numbers b x : ℕ) (s : IsSpreading outside numbers b x) where
       half : x / 2 ^ suc b ≡ rest / 2
       half = let e : suc b ≡ b + 1 = omega arith in ap (λ k. x / 2 ^ k) e ∙ sym (shr-shr x b 1)
 
-      here : weight outside x b ≡ (rest % 2) * scale
+      here : bit_of_number outside x b ≡ (rest % 2) * scale
       here = elim (cases_Bool (has x b)) [
-        | inl y ↦ let w : weight outside x b ≡ scale = rw (y, free) refl in omega (arith, w, ap (λ k. k * scale) (bit_yes x b y))
-        | inr n ↦ let w : weight outside x b ≡ 0 = rw n refl in omega (arith, w, ap (λ k. k * scale) (bit_no x b n))
+        | inl y ↦ let w : bit_of_number outside x b ≡ scale = rw (y, free) refl in omega (arith, w, ap (λ k. k * scale) (bit_yes x b y))
+        | inr n ↦ let w : bit_of_number outside x b ≡ 0 = rw n refl in omega (arith, w, ap (λ k. k * scale) (bit_no x b n))
       ]
 
   -- where it is one of the set, what stands there or past it moves up
@@ -115,15 +115,15 @@ module _ (outside numbers b x : ℕ) (s : IsSpreading outside numbers b x) where
     unfolding has
     gone = ap (λ k. eqb k 1) (ap (λ k. bit_at k b) y_is ∙ bit_at_cat_low rest (suc b) low b (omega arith)) ∙ has-above low b b low_in (omega arith)
 
-    lower : squeezed_below outside y b ≡ squeezed_below outside x b
-    unfolding squeezed_below
+    lower : squeeze_below outside y b ≡ squeeze_below outside x b
+    unfolding squeeze_below
     lower =
         omega (
           arith,
-          alike (weight outside y) (weight outside x) 0 b (omega arith)
+          alike (bit_of_number outside y) (bit_of_number outside x) 0 b (omega arith)
               (λ p from to. ap (λ k. cond (k && not (has outside p)) (2 ^ number_outside outside p) 0) (same p to)),
-          total-zero (weight outside y),
-          total-zero (weight outside x),
+          total-zero (bit_of_number outside y),
+          total-zero (bit_of_number outside x),
         )
 
     pub spreading-taken : IsSpreading outside numbers (suc b) y
@@ -133,10 +133,10 @@ module _ (outside numbers b x : ℕ) (s : IsSpreading outside numbers b x) where
         | inr d ↦ s.apart p (omega arith) (sym (same p (omega arith)) ∙ h)
       ];
       split =
-          let w : weight outside y b ≡ 0 = rw gone refl in
+          let w : bit_of_number outside y b ≡ 0 = rw gone refl in
           omega (
             arith,
-            squeezed-suc outside y b,
+            squeeze-suc outside y b,
             w,
             lower,
             ap (λ k. k * 2 ^ number_outside outside (suc b)) above,
@@ -206,13 +206,13 @@ spreading-within outside numbers b x board fits s =
 pub record IsSpread (outside numbers x : ℕ) : Type 0 where
   pub within : x < 2 ^ 24
   pub apart : (p : ℕ) → has x p ≡ true → has outside p ≡ false
-  pub squeezed : squeezed_below outside x 24 ≡ numbers
+  pub squeeze : squeeze_below outside x 24 ≡ numbers
 
 pub spread-end : (outside numbers x : ℕ) → numbers < 2 ^ number_outside outside 24 → IsSpreading outside numbers 24 x → IsSpread outside numbers x
 spread-end outside numbers x fits s = record {
   within = inside;
   apart = λ p h. s.apart p (point_lt x 24 p inside h) h;
-  squeezed = let none : x / 2 ^ 24 ≡ 0 = omega (arith, inside) in omega (arith, s.split, ap (λ k. k * 2 ^ number_outside outside 24) none);
+  squeeze = let none : x / 2 ^ 24 ≡ 0 = omega (arith, inside) in omega (arith, s.split, ap (λ k. k * 2 ^ number_outside outside 24) none);
 }
   where
     inside : x < 2 ^ 24
@@ -250,14 +250,14 @@ total-le t m (suc k) =
     rw e (omega (arith, total-le t m k, total-suc t (k + m)))
 
 module _ (n outside count rank numbers set : ℕ) (few : n ≤ 24) (ranked : IsRanked (number_outside outside n) 0 count rank numbers) (within : set < 2 ^ 24)
-    (apart : (p : ℕ) → has set p ≡ true → has outside p ≡ false) (is : squeezed_below outside set 24 ≡ numbers) where
+    (apart : (p : ℕ) → has set p ≡ true → has outside p ≡ false) (is : squeeze_below outside set 24 ≡ numbers) where
   all_below : (p : ℕ) → has set p ≡ true → p < n
-  unfolding squeezed_below
+  unfolding squeeze_below
   all_below p h = elim (cases_lt p n) [
     | inl l ↦ l
     | inr g ↦
         let l : p < 24 = point_lt set 24 p within h in
-        let here : weight outside set p ≡ 2 ^ number_outside outside p = rw (h, apart p h) refl in
+        let here : bit_of_number outside set p ≡ 2 ^ number_outside outside p = rw (h, apart p h) refl in
         let up : (p - n) + n ≡ p = omega (arith, g) in
         let rest : (24 - suc p) + suc p ≡ 24 = omega arith in
         let numbered : number_outside outside n ≤ number_outside outside p = omega (arith, number-le outside n (p - n), ap (number_outside outside) up) in
@@ -266,9 +266,9 @@ module _ (n outside count rank numbers set : ℕ) (few : n ≤ 24) (ranked : IsR
           ranked.within,
           is,
           here,
-          total-suc (weight outside set) p,
-          total-le (weight outside set) (suc p) (24 - suc p),
-          ap (total (weight outside set)) rest,
+          total-suc (bit_of_number outside set) p,
+          total-le (bit_of_number outside set) (suc p) (24 - suc p),
+          ap (total (bit_of_number outside set)) rest,
           pow-le-pow_right {n = 2} (omega arith) {i = number_outside outside n} {j = number_outside outside p} numbered,
         ))
   ]
@@ -281,12 +281,12 @@ module _ (n outside count rank numbers set : ℕ) (few : n ≤ 24) (ranked : IsR
         omega (
           arith,
           count_of-below set 24 within (omega arith),
-          (squeezed-is outside set apart 24).counted,
-          count_of-below (squeezed_below outside set 24) (number_outside outside 24) (squeezed-is outside set apart 24).within (omega (arith, number-count outside 24)),
+          (squeeze-is outside set apart 24).counted,
+          count_of-below (squeeze_below outside set 24) (number_outside outside 24) (squeeze-is outside set apart 24).within (omega (arith, number-count outside 24)),
           ap count_of is,
           ranked.counted,
         );
-    ranked = sym (squeezed-rank outside set apart within) ∙ ap (λ x. rank_of (map (number_outside 0) (members x))) is ∙ ranked.ranked;
+    ranked = sym (squeeze-rank outside set apart within) ∙ ap (λ x. rank_of (map (number_outside 0) (members x))) is ∙ ranked.ranked;
   }
 
 -- the numbers that are listed at a rank are those of a set of free points

@@ -11,7 +11,7 @@ use Rattle.morris_board.proofs.PointsLaws.{has-above}
 use Rattle.morris_index.specs.Binomials.{choose}
 use Rattle.morris_index.specs.Numbering.{rank_of, number_outside}
 use Rattle.morris_index.specs.Sums.{total, term}
-use Rattle.morris_index.specs.Parts.{weight, squeezed_below, part_rank}
+use Rattle.morris_index.specs.Parts.{bit_of_number, squeeze_below, part_rank}
 use Rattle.morris_index.proofs.ChooseLaws.{pow-pos}
 use Rattle.morris_index.proofs.RankLaws.{count_below, count-none, count-yes, count-no, number-zero, number-outside, number-inside, number-count, rank_below, rank-yes, rank-no}
 use Rattle.morris_index.proofs.Moving.{total-zero, total-suc, rank-zero}
@@ -60,17 +60,17 @@ module _ (f g : ℕ → Bool) (n w : ℕ) (same : (i : ℕ) → i < w → g i �
   rank-part (suc i) low =
       let e : n + suc i ≡ suc (n + i) = omega arith in
       let before = rank-part i (omega arith) in
-      let step = total-suc (term g (λ k. n + k) (count_below f n + 1)) i in
+      let unmove = total-suc (term g (λ k. n + k) (count_below f n + 1)) i in
       ap (rank_below 0 f) e ∙ elim (cases_Bool (g i)) [
         | inl y ↦
             let place : suc (count_below f (n + i)) ≡ count_below g i + (count_below f n + 1) = omega (arith, count-part i (omega arith)) in
             let here : term g (λ k. n + k) (count_below f n + 1) i ≡ choose (n + i) (count_below g i + (count_below f n + 1)) = rw y refl in
             let there : choose (number_outside 0 (n + i)) (suc (count_below f (n + i))) ≡ choose (n + i) (count_below g i + (count_below f n + 1)) =
             ap₂ choose (number_outside-none (n + i)) place in
-            omega (arith, before, step, here, there, rank-yes 0 f (n + i) (sym (same i (omega arith)) ∙ y))
+            omega (arith, before, unmove, here, there, rank-yes 0 f (n + i) (sym (same i (omega arith)) ∙ y))
         | inr y ↦
             let here : term g (λ k. n + k) (count_below f n + 1) i ≡ 0 = rw y refl in
-            omega (arith, before, step, here, rank-no 0 f (n + i) (sym (same i (omega arith)) ∙ y))
+            omega (arith, before, unmove, here, rank-no 0 f (n + i) (sym (same i (omega arith)) ∙ y))
       ]
 
 module _ (outside o n w : ℕ) (same : (i : ℕ) → i < w → has o i ≡ has outside (n + i)) where
@@ -79,19 +79,19 @@ module _ (outside o n w : ℕ) (same : (i : ℕ) → i < w → has o i ≡ has o
       omega (arith, number-count outside (n + i), number-count outside n, number-count o i, count-part (has outside) (has o) n w same i low)
 
   module _ (set s : ℕ) (same_set : (i : ℕ) → i < w → has s i ≡ has set (n + i)) where
-    pub squeezed-part : (i : ℕ) → i ≤ w
-        → squeezed_below outside set (n + i) ≡ squeezed_below outside set n + squeezed_below o s i * 2 ^ number_outside outside n
-    unfolding squeezed_below
-    squeezed-part zero low =
+    pub squeeze-part : (i : ℕ) → i ≤ w
+        → squeeze_below outside set (n + i) ≡ squeeze_below outside set n + squeeze_below o s i * 2 ^ number_outside outside n
+    unfolding squeeze_below
+    squeeze-part zero low =
         let e : n + 0 ≡ n = omega arith in
-        omega (arith, ap (total (weight outside set)) e, ap (λ k. k * 2 ^ number_outside outside n) (total-zero (weight o s)))
-    squeezed-part (suc i) low =
+        omega (arith, ap (total (bit_of_number outside set)) e, ap (λ k. k * 2 ^ number_outside outside n) (total-zero (bit_of_number o s)))
+    squeeze-part (suc i) low =
         let e : n + suc i ≡ suc (n + i) = omega arith in
-        let before = squeezed-part i (omega arith) in
-        let here : weight outside set (n + i) ≡ weight o s i * 2 ^ number_outside outside n =
+        let before = squeeze-part i (omega arith) in
+        let here : bit_of_number outside set (n + i) ≡ bit_of_number o s i * 2 ^ number_outside outside n =
         rw (← same i (omega arith), ← same_set i (omega arith), number-part i (omega arith)) (scaled (has s i && not (has o i)) (number_outside outside n) (number_outside o i)) in
-        ap (total (weight outside set)) e
-        ∙ omega (arith, before, here, total-suc (weight outside set) (n + i), ap (λ k. k * 2 ^ number_outside outside n) (total-suc (weight o s) i))
+        ap (total (bit_of_number outside set)) e
+        ∙ omega (arith, before, here, total-suc (bit_of_number outside set) (n + i), ap (λ k. k * 2 ^ number_outside outside n) (total-suc (bit_of_number o s) i))
       where
         scaled : (b : Bool) (a k : ℕ) → cond {A = ℕ} b (2 ^ (a + k)) 0 ≡ cond {A = ℕ} b (2 ^ k) 0 * 2 ^ a
         scaled true a k = omega (arith, pow-add 2 a k)
@@ -123,14 +123,14 @@ pub record IsSqueezed (outside set n x f : ℕ) : Type 0 where
 
 module _ (outside set : ℕ) where
   abbrev Squeezed : ℕ → Type 0
-  Squeezed n = IsSqueezed outside set n (squeezed_below outside set n) (number_outside outside n)
+  Squeezed n = IsSqueezed outside set n (squeeze_below outside set n) (number_outside outside n)
 
-  pub mask-none : squeezed_below outside set 0 ≡ 0
-  unfolding squeezed_below
-  mask-none = total-zero (weight outside set)
+  pub mask-none : squeeze_below outside set 0 ≡ 0
+  unfolding squeeze_below
+  mask-none = total-zero (bit_of_number outside set)
 
-  squeezed-none : Squeezed 0
-  squeezed-none =
+  squeeze-none : Squeezed 0
+  squeeze-none =
       rw (mask-none, number-zero outside) (record {
         within = lit< tt;
         counted = count-none (has 0) ∙ sym (count-none (has set));
@@ -139,29 +139,29 @@ module _ (outside set : ℕ) where
 
   module _ (n : ℕ) (before : Squeezed n) where
     abbrev x : ℕ
-    x = squeezed_below outside set n
+    x = squeeze_below outside set n
 
     abbrev f : ℕ
     f = number_outside outside n
 
-    same_mask : weight outside set n ≡ 0 → squeezed_below outside set (suc n) ≡ x
-    unfolding squeezed_below
-    same_mask e = omega (arith, total-suc (weight outside set) n, e)
+    same_mask : bit_of_number outside set n ≡ 0 → squeeze_below outside set (suc n) ≡ x
+    unfolding squeeze_below
+    same_mask e = omega (arith, total-suc (bit_of_number outside set) n, e)
 
-    more_mask : weight outside set n ≡ 2 ^ f → squeezed_below outside set (suc n) ≡ x + 2 ^ f
-    unfolding squeezed_below
-    more_mask e = omega (arith, total-suc (weight outside set) n, e)
+    more_mask : bit_of_number outside set n ≡ 2 ^ f → squeeze_below outside set (suc n) ≡ x + 2 ^ f
+    unfolding squeeze_below
+    more_mask e = omega (arith, total-suc (bit_of_number outside set) n, e)
 
-    squeezed-inside : has outside n ≡ true → has set n ≡ false → Squeezed (suc n)
-    squeezed-inside y none =
+    squeeze-inside : has outside n ≡ true → has set n ≡ false → Squeezed (suc n)
+    squeeze-inside y none =
         rw (same_mask (rw none refl), number-inside outside n y) (record {
           within = before.within;
           counted = before.counted ∙ sym (count-no (has set) n none);
           ranked = before.ranked ∙ sym (rank-no outside (has set) n none);
         })
 
-    squeezed-vacant : has outside n ≡ false → has set n ≡ false → Squeezed (suc n)
-    squeezed-vacant free none =
+    squeeze-vacant : has outside n ≡ false → has set n ≡ false → Squeezed (suc n)
+    squeeze-vacant free none =
         let above : has x f ≡ false = has-above x f f before.within (omega arith) in
         rw (same_mask (rw none refl), number-outside outside n free) (record {
           within = omega (arith, before.within, pow-suc 2 f);
@@ -169,8 +169,8 @@ module _ (outside set : ℕ) where
           ranked = rank-no 0 (has x) f above ∙ before.ranked ∙ sym (rank-no outside (has set) n none);
         })
 
-    squeezed-point : has outside n ≡ false → has set n ≡ true → Squeezed (suc n)
-    squeezed-point free here =
+    squeeze-point : has outside n ≡ false → has set n ≡ true → Squeezed (suc n)
+    squeeze-point free here =
         let top = has-top x f before.within in
         let rest = has-rest x f before.within in
         let counts : count_below (has (x + 2 ^ f)) f ≡ count_below (has set) n = count-same (has (x + 2 ^ f)) (has x) f rest ∙ before.counted in
@@ -194,25 +194,25 @@ module _ (outside set : ℕ) where
       | inr none ↦ none
     ]
 
-    pub squeezed-is : (n : ℕ) → Squeezed n
-    squeezed-is zero = squeezed-none
-    squeezed-is (suc n) = elim (cases_Bool (has outside n)) [
-      | inl y ↦ squeezed-inside n (squeezed-is n) y (none_here n y)
+    pub squeeze-is : (n : ℕ) → Squeezed n
+    squeeze-is zero = squeeze-none
+    squeeze-is (suc n) = elim (cases_Bool (has outside n)) [
+      | inl y ↦ squeeze-inside n (squeeze-is n) y (none_here n y)
       | inr free ↦ elim (cases_Bool (has set n)) [
-        | inl here ↦ squeezed-point n (squeezed-is n) free here
-        | inr none ↦ squeezed-vacant n (squeezed-is n) free none
+        | inl here ↦ squeeze-point n (squeeze-is n) free here
+        | inr none ↦ squeeze-vacant n (squeeze-is n) free none
       ]
     ]
 
-    pub squeezed-24 : (n : ℕ) → n ≤ 24 → squeezed_below outside set n < 2 ^ 24
-    squeezed-24 n low =
-        omega (arith, (squeezed-is n).within, pow-le-pow_right {n = 2} (omega arith) {i = number_outside outside n} {j = 24} (omega (arith, number-count outside n)))
+    pub squeeze-24 : (n : ℕ) → n ≤ 24 → squeeze_below outside set n < 2 ^ 24
+    squeeze-24 n low =
+        omega (arith, (squeeze-is n).within, pow-le-pow_right {n = 2} (omega arith) {i = number_outside outside n} {j = 24} (omega (arith, number-count outside n)))
 
-    pub squeezed-rank : set < 2 ^ 24
-        → rank_of (map (number_outside 0) (members (squeezed_below outside set 24))) ≡ rank_of (map (number_outside outside) (members set))
-    squeezed-rank within =
-        rank_set (number_outside outside 24) 0 (omega (arith, number-count outside 24)) (squeezed_below outside set 24) (squeezed-is 24).within
-        ∙ (squeezed-is 24).ranked
+    pub squeeze-rank : set < 2 ^ 24
+        → rank_of (map (number_outside 0) (members (squeeze_below outside set 24))) ≡ rank_of (map (number_outside outside) (members set))
+    squeeze-rank within =
+        rank_set (number_outside outside 24) 0 (omega (arith, number-count outside 24)) (squeeze_below outside set 24) (squeeze-is 24).within
+        ∙ (squeeze-is 24).ranked
         ∙ sym (rank_set 24 outside (omega arith) set within)
 
 -- ---- the parts of a board

@@ -11,13 +11,13 @@ use Rattle.morris_index.specs.Numbering.{rank_of, number_outside, half_index}
 use Rattle.morris_index.specs.ClassPairs.{class_size_of, class_index_of}
 use Rattle.morris_index.specs.Moves.{start_of}
 use Rattle.morris_index.specs.Pairs.{Counts, IsPair, size_of, index_of}
-use Rattle.morris_index.specs.Standings.{are_of, IsStanding, IsLedStanding}
+use Rattle.morris_index.specs.Standings.{are_of, IsStanding, IsCanonicalStanding}
 use Rattle.morris_index.specs.declared.standing.Standing.{Standing}
 use Rattle.morris_index.proofs.BinomialTable.{choose_small}
 use Rattle.morris_index.proofs.ClassLaws.{symmetry_leads, symmetry_within}
 use Rattle.morris_index.proofs.ClassPairLaws.{index-lt}
 use Rattle.morris_index.proofs.CarriedLaws.{IsCarried, is_carried, carried_rank}
-use Rattle.morris_index.proofs.ClassMoveLaws.{led_entry}
+use Rattle.morris_index.proofs.ClassMoveLaws.{canonical_entry}
 use Rattle.morris_index.proofs.MoveLaws.{start-few, index-parts, regrouped}
 use Rattle.morris_board.proofs.PositionLaws.{own_count, other_count}
 use Rattle.morris_index.proofs.IndexLaws.{placed, number_outside-none, rank_outside-lt, half_index-few, index-lt as position-lt}
@@ -68,21 +68,21 @@ module _ (board : Shape) (n : ℕ) (few : n ≤ 24) (points : board.points ≡ n
 -- ---- the entries by classes
 
 module _ (board : Shape) (n : ℕ) (few : n ≤ 24) (points : board.points ≡ n) (y : HasSymmetries board) (c : Counts) (standing : Standing) (other : ℕ)
-    (k : IsLedStanding board n c (count_of other) standing) (h : IsPosition board (sides standing.own other)) where
-  abbrev led_from : Sides
-  led_from = sides standing.own other
+    (k : IsCanonicalStanding board n c (count_of other) standing) (h : IsPosition board (sides standing.own other)) where
+  abbrev canonical_from : Sides
+  canonical_from = sides standing.own other
 
-  pub leading_within : standing.symmetry < board.symmetries
-  leading_within = rw k.symmetry (symmetry_within board (omega arith) y standing.own h.stones.own_within)
+  pub canonicalizing_within : standing.symmetry < board.symmetries
+  canonicalizing_within = rw k.symmetry (symmetry_within board (omega arith) y standing.own h.stones.own_within)
 
-  pub led_there : IsCarried board n led_from standing.symmetry
-  led_there =
-      is_carried board n few points y led_from (placed board n led_from points h) (other_count led_from h.sized).1 standing.symmetry leading_within
+  pub canonical_there : IsCarried board n canonical_from standing.symmetry
+  canonical_there =
+      is_carried board n few points y canonical_from (placed board n canonical_from points h) (other_count canonical_from h.sized).1 standing.symmetry canonicalizing_within
       (rw k.symmetry (symmetry_leads board standing.own y.some))
 
   -- what the code adds up
-  pub entry-is : standing.start + carried_rank board led_from standing.symmetry ≡ class_index_of board n c led_from
-  entry-is = ap₂ (λ a b. a + b) k.start (ap (carried_rank board led_from) k.symmetry) ∙ led_entry board n few points y c led_from
+  pub entry-is : standing.start + carried_rank board canonical_from standing.symmetry ≡ class_index_of board n c canonical_from
+  entry-is = ap₂ (λ a b. a + b) k.start (ap (carried_rank board canonical_from) k.symmetry) ∙ canonical_entry board n few points y c canonical_from
 
-  pub entry_below : standing.start + carried_rank board led_from standing.symmetry < class_size_of board n c
-  entry_below = rw entry-is (index-lt board n few points y c led_from h k.counts)
+  pub entry_below : standing.start + carried_rank board canonical_from standing.symmetry < class_size_of board n c
+  entry_below = rw entry-is (index-lt board n few points y c canonical_from h k.counts)

@@ -10,17 +10,17 @@ use Rattle.morris_board.specs.Positions.{Sides, sides, IsPosition}
 use Rattle.morris_board.specs.Symmetries.{image_of, image_sides, inverse_of, HasSymmetries}
 use Rattle.morris_board.proofs.PointsLaws.{has-with, has-without, same_points}
 use Rattle.morris_board.proofs.ImageLaws.{IsOneToOne, one_to_one, IsPosition-image, count_of-image, has-image_at, image_of-lt, image_of-with, image_of-without, image_of-undone}
-use Rattle.morris_index.specs.Classes.{is_leading, symmetry_of, representative_of}
-use Rattle.morris_index.specs.ClassPairs.{led, class_index_of}
-use Rattle.morris_index.specs.Moves.{taken_back, moved_on}
+use Rattle.morris_index.specs.Classes.{is_canonicalizing, symmetry_of, representative_of}
+use Rattle.morris_index.specs.ClassPairs.{canonical_form, class_index_of}
+use Rattle.morris_index.specs.Moves.{unmove_sides, move_sides}
 use Rattle.morris_index.specs.Pairs.{Counts, IsPair, is_of}
-use Rattle.morris_index.specs.Carried.{Step, step, end_of, ComesDownTo, AddsEntries, carries, entries_before}
+use Rattle.morris_index.specs.Unmoves.{Unmove, unmove, end_of, ComesDownTo, AddsEntries, gives_unmove, entry_predecessors}
 use Rattle.morris_index.proofs.IndexLaws.{IsPlaced, placed, halves_of, is_of-first, is_of-second}
 use Rattle.morris_board.proofs.PositionLaws.{from_between, own_count, other_count}
 use Rattle.morris_board.proofs.SetLaws.{with_point-lt, without_point-lt}
 use Rattle.morris_index.proofs.MoveLaws.{vacant_own, vacant_other, own_lt, other_lt, before_count, before_placed}
-use Rattle.morris_index.proofs.ClassLaws.{all_range, image_twice, led_least, representative_twice, symmetry_first, symmetry_within}
-use Rattle.morris_index.proofs.FallLaws.{kept-from, kept-has, kept-once}
+use Rattle.morris_index.proofs.ClassLaws.{all_range, image_twice, canonical_least, representative_twice, symmetry_first, symmetry_within}
+use Rattle.morris_index.proofs.FallLaws.{table-from, table-has, table-once}
 
 -- ---- a stone that has gone to another point goes back
 
@@ -62,19 +62,19 @@ module _ (board : Shape) (n : ℕ) (few : n ≤ 24) (points : board.points ≡ n
         ∙ ap (λ t. with_point t (f b)) (image_of-without board.points low f _ one x a within a_in)
 
     moved_on-image : (q : Sides) (a b : ℕ) → q.own < 2 ^ board.points → a < board.points → b < board.points
-        → image_sides f (moved_on q a b) ≡ moved_on (image_sides f q) (f a) (f b)
+        → image_sides f (move_sides q a b) ≡ move_sides (image_sides f q) (f a) (f b)
     moved_on-image q a b within a_in b_in = ap (sides (image_of f q.other)) (stone_gone q.own a b within a_in b_in)
 
     taken_back-image : (q : Sides) (u v : ℕ) → q.other < 2 ^ board.points → u < board.points → v < board.points
-        → image_sides f (taken_back q u v) ≡ taken_back (image_sides f q) (f u) (f v)
+        → image_sides f (unmove_sides q u v) ≡ unmove_sides (image_sides f q) (f u) (f v)
     taken_back-image q u v within u_in v_in = ap (λ own. sides own (image_of f q.own)) (stone_gone q.other v u within v_in u_in)
 
     forth_back : (q : Sides) → q.own < 2 ^ board.points → q.other < 2 ^ board.points → image_sides (board.image (inverse_of s)) (image_sides f q) ≡ q
     forth_back q own other = ap₂ sides (image_of-undone board.points low f _ one q.own own) (image_of-undone board.points low f _ one q.other other)
 
     -- a set that is taken to a representative is led there
-    pub leads_from : (set : ℕ) → set < 2 ^ board.points → representative_of board (image_of f set) ≡ image_of f set → is_leading board set s ≡ true
-    unfolding is_leading representative_of
+    pub leads_from : (set : ℕ) → set < 2 ^ board.points → representative_of board (image_of f set) ≡ image_of f set → is_canonicalizing board set s ≡ true
+    unfolding is_canonicalizing representative_of
     leads_from set small own =
         all_range (λ t. leb (image_of f set) (image_of (board.image t) set)) 0 board.symmetries (λ t t_in.
         let image_small : image_of f set < 2 ^ board.points = image_of-lt board.points low f _ one set small in
@@ -90,7 +90,7 @@ module _ (board : Shape) (n : ℕ) (few : n ≤ 24) (points : board.points ≡ n
   module _ (c : Counts) (pair : IsPair n c) (p : Sides) (h : IsPosition board p) (of : is_of c p ≡ true) (u v : ℕ) (u_in : u < n)
       (vacant : not (has p.own u || has p.other u) ≡ true) (here : has p.other v ≡ true) where
     abbrev before : Sides
-    before = taken_back p u v
+    before = unmove_sides p u v
 
     free_own : has p.own u ≡ false
     free_own = vacant_own _ _ vacant
@@ -153,34 +153,34 @@ module _ (board : Shape) (n : ℕ) (few : n ≤ 24) (points : board.points ≡ n
       | inr t ↦ t
     ]
 
-    moves_there : moved_on before u v ≡ p
+    moves_there : move_sides before u v ≡ p
     moves_there = ap (sides p.own) (there_back p.other v u here free_other)
 
     -- the step that symmetry s takes the move to
-    abbrev carried : ℕ → Step
-    carried s = step (image_sides (board.image s) before) (board.image s u) (board.image s v)
+    abbrev unmoved : ℕ → Unmove
+    unmoved s = unmove (image_sides (board.image s) before) (board.image s u) (board.image s v)
 
-    module _ (s : ℕ) (s_in : s < board.symmetries) (k : carries board p before.own s ≡ true) where
-      parts : (is_leading board before.own s ≡ true) × (eqb (symmetry_of board (image_of (board.image s) p.own)) (inverse_of s) ≡ true)
+    module _ (s : ℕ) (s_in : s < board.symmetries) (k : gives_unmove board p before.own s ≡ true) where
+      parts : (is_canonicalizing board before.own s ≡ true) × (eqb (symmetry_of board (image_of (board.image s) p.own)) (inverse_of s) ≡ true)
       parts = and_parts _ _ k
 
-      ends_there : end_of (carried s) ≡ image_sides (board.image s) p
+      ends_there : end_of (unmoved s) ≡ image_sides (board.image s) p
       ends_there = sym (moved_on-image s s_in before u v own_within u_low v_low) ∙ ap (image_sides (board.image s)) moves_there
 
-      leads_back : symmetry_of board (end_of (carried s)).own ≡ inverse_of s
+      leads_back : symmetry_of board (end_of (unmoved s)).own ≡ inverse_of s
       leads_back = ap (λ (x : Sides). symmetry_of board x.own) ends_there ∙ eqb-true _ _ parts.1
 
-      falls_there : led board (end_of (carried s)) ≡ p
-      unfolding led
+      falls_there : canonical_form board (end_of (unmoved s)) ≡ p
+      unfolding canonical_form
       falls_there =
-          ap (λ t. image_sides (board.image t) (end_of (carried s))) leads_back
+          ap (λ t. image_sides (board.image t) (end_of (unmoved s))) leads_back
           ∙ ap (image_sides (board.image (inverse_of s))) ends_there
           ∙ forth_back s s_in p h.stones.own_within h.stones.other_within
 
       own_is : image_of (board.image s) before.own ≡ representative_of board before.own
-      own_is = led_least board before.own s s_in parts.0
+      own_is = canonical_least board before.own s s_in parts.0
 
-      comes_down : ComesDownTo board n c p u v (carried s)
+      comes_down : ComesDownTo board n c p u v (unmoved s)
       comes_down = record {
         lawful = IsPosition-image board low _ _ (one s s_in) before before_position;
         counts = rw (
@@ -198,12 +198,12 @@ module _ (board : Shape) (n : ℕ) (few : n ≤ 24) (points : board.points ≡ n
           v_left,
           v_free,
         ) refl;
-        falls = falls_there;
+        lands = falls_there;
         leaves = ap (λ t. board.image t (board.image s u)) leads_back ∙ (one s s_in).undone u u_low;
         arrives = ap (λ t. board.image t (board.image s v)) leads_back ∙ (one s s_in).undone v v_low;
       }
 
-    module _ (x : Step) (k : ComesDownTo board n c p u v x) where
+    module _ (x : Unmove) (k : ComesDownTo board n c p u v x) where
       abbrev t : Sides
       t = end_of x
 
@@ -234,19 +234,19 @@ module _ (board : Shape) (n : ℕ) (few : n ≤ 24) (points : board.points ≡ n
       back_in = y.inverse_within g g_in
 
       there : image_sides (board.image g) t ≡ p
-      unfolding led
-      there = k.falls
+      unfolding canonical_form
+      there = k.lands
 
       back_there : image_sides (board.image back) p ≡ t
       back_there = ap (image_sides (board.image back)) (sym there) ∙ forth_back g g_in t t_own t_other
 
-      goes_back : taken_back t x.from x.to ≡ x.start
+      goes_back : unmove_sides t x.from x.to ≡ x.start
       goes_back = ap (λ own. sides own x.start.other) (there_back x.start.own x.from x.to k.stone (vacant_own _ _ k.vacant))
 
       before_is : before ≡ image_sides (board.image g) x.start
       before_is =
-          ap (λ (z : Sides). taken_back z u v) (sym there)
-          ∙ ap₂ (taken_back (image_sides (board.image g) t)) (sym k.leaves) (sym k.arrives)
+          ap (λ (z : Sides). unmove_sides z u v) (sym there)
+          ∙ ap₂ (unmove_sides (image_sides (board.image g) t)) (sym k.leaves) (sym k.arrives)
           ∙ sym (taken_back-image g g_in t x.from x.to t_other from_low to_low)
           ∙ ap (image_sides (board.image g)) goes_back
 
@@ -261,45 +261,45 @@ module _ (board : Shape) (n : ℕ) (few : n ≤ 24) (points : board.points ≡ n
       to_is : board.image back v ≡ x.to
       to_is = ap (board.image back) (sym k.arrives) ∙ (one g g_in).undone x.to to_low
 
-      carries_it : carries board p before.own back ≡ true
+      carries_it : gives_unmove board p before.own back ≡ true
       carries_it =
           and_from _ _
           (leads_from back back_in before.own own_within (subst (λ (z : Sides). representative_of board z.own ≡ z.own) (sym start_is) k.own))
           (eq-eqb _ _ (ap (λ (z : Sides). symmetry_of board z.own) back_there ∙ sym (y.inverse_twice g g_in)))
 
-      carried_is : carried back ≡ x
-      carried_is = ap (λ z. step z (board.image back u) (board.image back v)) start_is ∙ ap₂ (step x.start) from_is to_is
+      carried_is : unmoved back ≡ x
+      carried_is = ap (λ z. unmove z (board.image back u) (board.image back v)) start_is ∙ ap₂ (unmove x.start) from_is to_is
 
     -- ---- all of them
 
-    abbrev all_steps : List Step
-    all_steps = map carried (filter (carries board p before.own) (range_with_len 0 board.symmetries))
+    abbrev all_steps : List Unmove
+    all_steps = map unmoved (filter (gives_unmove board p before.own) (range_with_len 0 board.symmetries))
 
-    steps_listed : (x : Step) → Contains all_steps x ↔ ComesDownTo board n c p u v x
+    steps_listed : (x : Unmove) → Contains all_steps x ↔ ComesDownTo board n c p u v x
     steps_listed x = (
       (λ m.
-          let r = kept-from carried (carries board p before.own) 0 board.symmetries x m in
+          let r = table-from unmoved (gives_unmove board p before.own) 0 board.symmetries x m in
           subst (ComesDownTo board n c p u v) r.4 (comes_down r.0 (omega (arith, r.2)) r.3)),
       (λ k.
           subst (Contains all_steps) (carried_is x k)
-          (kept-has carried (carries board p before.own) 0 board.symmetries (back x k) (omega arith) (omega (arith, back_in x k)) (carries_it x k))),
+          (table-has unmoved (gives_unmove board p before.own) 0 board.symmetries (back x k) (omega arith) (omega (arith, back_in x k)) (carries_it x k))),
     )
 
-    steps_alone : (s t : ℕ) → s < board.symmetries → t < board.symmetries → carries board p before.own s ≡ true → carries board p before.own t ≡ true
-        → carried s ≡ carried t → s ≡ t
+    steps_alone : (s t : ℕ) → s < board.symmetries → t < board.symmetries → gives_unmove board p before.own s ≡ true → gives_unmove board p before.own t ≡ true
+        → unmoved s ≡ unmoved t → s ≡ t
     steps_alone s t s_in t_in of_s of_t e =
         sym (y.inverse_twice s s_in)
-        ∙ ap inverse_of (sym (leads_back s s_in of_s) ∙ ap (λ (x : Step). symmetry_of board (end_of x).own) e ∙ leads_back t t_in of_t)
+        ∙ ap inverse_of (sym (leads_back s s_in of_s) ∙ ap (λ (x : Unmove). symmetry_of board (end_of x).own) e ∙ leads_back t t_in of_t)
         ∙ y.inverse_twice t t_in
 
-    entries_are : map (λ (x : Step). class_index_of board n c x.start) all_steps ≡ entries_before board n c p u v
-    unfolding entries_before
-    entries_are = map-map (λ (x : Step). class_index_of board n c x.start) carried (filter (carries board p before.own) (range_with_len 0 board.symmetries))
+    entries_are : map (λ (x : Unmove). class_index_of board n c x.start) all_steps ≡ entry_predecessors board n c p u v
+    unfolding entry_predecessors
+    entries_are = map-map (λ (x : Unmove). class_index_of board n c x.start) unmoved (filter (gives_unmove board p before.own) (range_with_len 0 board.symmetries))
 
-    pub adds_entries : (old new : List ℕ) → new ≡ old ++ entries_before board n c p u v → AddsEntries board n c p u v old new
+    pub adds_entries : (old new : List ℕ) → new ≡ old ++ entry_predecessors board n c p u v → AddsEntries board n c p u v old new
     adds_entries old new is = record {
-      steps = all_steps;
+      unmoves = all_steps;
       listed = steps_listed;
-      once = kept-once carried (carries board p before.own) board.symmetries steps_alone 0 board.symmetries (omega arith);
+      once = table-once unmoved (gives_unmove board p before.own) board.symmetries steps_alone 0 board.symmetries (omega arith);
       added = is ∙ ap (λ xs. old ++ xs) (sym entries_are);
     }

@@ -317,8 +317,8 @@ pub record IsNext (s n p : ℕ) (before : List ℕ) : Type 0 where
 
 pub next_point : (s n p : ℕ) (before after left : List ℕ) → s < 2 ^ n → n ≤ 32 → before ++ left ≡ members s → left ≡ p ∷ after → IsNext s n p before
 unfolding count_of
-next_point s n p before after left within fits split step =
-    let cut : before ++ p ∷ after ≡ members s = ap (λ t. before ++ t) (sym step) ∙ split in
+next_point s n p before after left within fits split unmove =
+    let cut : before ++ p ∷ after ≡ members s = ap (λ t. before ++ t) (sym unmove) ∙ split in
     let stands = point_at s n p before after within fits cut in
     record {
       low = member_lt s n p before after within cut;

@@ -86,10 +86,10 @@ module _ (n count rank : ℕ) where
       ];
     }
 
-  pub unranking-step : (left rest found p : ℕ) → 0 < left → IsUnranking n count rank left rest found → n ≤ 24 → choose p left ≤ rest
+  pub unranking-unmove : (left rest found p : ℕ) → 0 < left → IsUnranking n count rank left rest found → n ≤ 24 → choose p left ≤ rest
       → ((q : ℕ) → p < q → q ≤ 24 → rest < choose q left) → IsUnranking n count rank (left - 1) (rest - choose p left) (with_point found p)
-  unranking-step zero rest found p some s few fits greatest = absurd (omega arith)
-  unranking-step (suc left) rest found p some s few fits greatest =
+  unranking-unmove zero rest found p some s few fits greatest = absurd (omega arith)
+  unranking-unmove (suc left) rest found p some s few fits greatest =
       let e : suc left - 1 ≡ left = omega arith in
       rw e (unranking-next left rest found p s few fits greatest)
 
@@ -108,7 +108,7 @@ module _ (n count rank : ℕ) where
     last_lt = omega (arith, s.small, choose-one n)
 
     last : IsUnranking n count rank 0 (rest - choose rest 1) (with_point found rest)
-    last = unranking-step 1 rest found rest (omega arith) s few (omega (arith, choose-one rest)) (λ q h l. omega (arith, choose-one q))
+    last = unranking-unmove 1 rest found rest (omega arith) s few (omega (arith, choose-one rest)) (λ q h l. omega (arith, choose-one q))
 
     pub unranking-last : IsRanked n 0 count rank (with_point found rest)
     unranking-last = unranking-end (rest - choose rest 1) (with_point found rest) last

@@ -23,11 +23,11 @@ class_start_of board n c own other =
 
 -- What is kept of a position, on n points, for the entries of those after it. In each of these the
 -- opponent is to move, so all of them are led by the symmetry of the opponent's set.
-pub record IsLedOn (board : Shape) (n : ℕ) (q : InPair) (symmetry : ℕ) (image : Sides) (first : ℕ) : Type 0 where
+pub record IsCanonicalOn (board : Shape) (n : ℕ) (q : InPair) (symmetry : ℕ) (image : Sides) (first : ℕ) : Type 0 where
   pub counts : is_of q.pair q.position ≡ true
   pub lawful : IsPosition board q.position
   pub pair : IsPair n q.pair
   pub leads : symmetry ≡ symmetry_of board q.position.other
-  pub led : image ≡ image_sides (board.image symmetry) q.position
+  pub canonical_form : image ≡ image_sides (board.image symmetry) q.position
   pub start : first ≡ class_start_of board n q.pair q.position.other (count_of q.position.own)
   pub few : first ≤ 2 ^ 54

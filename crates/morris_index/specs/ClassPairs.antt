@@ -11,8 +11,8 @@ use Rattle.morris_index.specs.Pairs.{Counts}
 use Rattle.morris_index.specs.Classes.{symmetry_of, class_of, class_count}
 
 -- the image of a position under the symmetry of the set of the player to move
-unfoldable pub led : Shape → Sides → Sides
-led board s = image_sides (board.image (symmetry_of board s.own)) s
+unfoldable pub canonical_form : Shape → Sides → Sides
+canonical_form board s = image_sides (board.image (symmetry_of board s.own)) s
 
 -- How many entries there are for own stones of the player to move and other ones of the opponent,
 -- on n points: for each class, the sets of other points outside its representative.
@@ -22,7 +22,7 @@ class_half_size board n own other = class_count board own * choose (n - own) oth
 -- the number of a position's entry among those with the same numbers of stones
 unfoldable pub class_half_index : Shape → ℕ → Sides → ℕ
 class_half_index board n s =
-    class_of board s.own * choose (n - count_of s.own) (count_of s.other) + rank_of (map (number_outside (led board s).own) (members (led board s).other))
+    class_of board s.own * choose (n - count_of s.own) (count_of s.other) + rank_of (map (number_outside (canonical_form board s).own) (members (canonical_form board s).other))
 
 -- how many entries the pair has: with a = b one half, else the half (a, b) and then the half (b, a)
 unfoldable pub class_size_of : Shape → ℕ → Counts → ℕ

@@ -7,20 +7,20 @@ use Rattle.morris_board.specs.Sets.{has, count_of}
 use Rattle.morris_board.specs.Symmetries.{image_of}
 use Rattle.morris_index.specs.Binomials.{choose}
 use Rattle.morris_index.specs.Numbering.{count_below, IsRanked}
-use Rattle.morris_index.specs.declared.classes.Lead.{Lead}
+use Rattle.morris_index.specs.declared.classes.SetClass.{SetClass}
 
 -- whether symmetry s leads a set to its image with the least mask
-unfoldable pub is_leading : Shape → ℕ → ℕ → Bool
-is_leading board set s =
+unfoldable pub is_canonicalizing : Shape → ℕ → ℕ → Bool
+is_canonicalizing board set s =
     list_all (λ t. nat_le (image_of (board.image s) set) (image_of (board.image t) set)) (range_with_len 0 board.symmetries)
 
 -- x has the symmetries that lead a set to its image with the least mask, and no other numbers
-abbrev pub AreLeading : Shape → ℕ → ℕ → Type 0
-AreLeading board set x = (s : ℕ) → has x s ≡ (nat_lt s board.symmetries && is_leading board set s)
+abbrev pub AreCanonicalizing : Shape → ℕ → ℕ → Type 0
+AreCanonicalizing board set x = (s : ℕ) → has x s ≡ (nat_lt s board.symmetries && is_canonicalizing board set s)
 
 -- the least symmetry that leads a set to its image with the least mask
 unfoldable pub symmetry_of : Shape → ℕ → ℕ
-symmetry_of board set = position_or_len (is_leading board set) (range_with_len 0 board.symmetries)
+symmetry_of board set = position_or_len (is_canonicalizing board set) (range_with_len 0 board.symmetries)
 
 -- that image is the representative of the set's class
 unfoldable pub representative_of : Shape → ℕ → ℕ
@@ -44,21 +44,21 @@ unfoldable pub class_count : Shape → ℕ → ℕ
 class_count board count = classes_below board count (2 ^ board.points)
 
 -- the two parts of what is kept of sets, each as a list
-abbrev pub classes_in : List Lead → List ℕ
-classes_in leads = map (λ (lead : Lead). lead.class) leads
+abbrev pub classes_in : List SetClass → List ℕ
+classes_in set_classes = map (λ (set_class : SetClass). set_class.class) set_classes
 
-abbrev pub leading_in : List Lead → List ℕ
-leading_in leads = map (λ (lead : Lead). lead.leading) leads
+abbrev pub canonicalizing_in : List SetClass → List ℕ
+canonicalizing_in set_classes = map (λ (set_class : SetClass). set_class.canonicalizing) set_classes
 
 -- What is kept of the sets of `count` points, on n points, whose rank is below `to`: at the rank of
 -- each, its class and all symmetries that lead it; and the representatives among them, in the order
 -- of their classes.
-pub record IsKept (board : Shape) (n count to : ℕ) (classes leading representatives : List ℕ) : Type 0 where
+pub record IsClassTable (board : Shape) (n count to : ℕ) (classes canonicalizing representatives : List ℕ) : Type 0 where
   pub classes_len : length classes ≡ to
-  pub leading_len : length leading ≡ to
+  pub canonicalizing_len : length canonicalizing ≡ to
   pub few : length representatives ≤ to
   pub class : (rank set : ℕ) → rank < to → IsRanked n 0 count rank set → slice_index classes rank ≡ class_of board set
-  pub leads : (rank set : ℕ) → rank < to → IsRanked n 0 count rank set → AreLeading board set (slice_index leading rank)
+  pub set_classes : (rank set : ℕ) → rank < to → IsRanked n 0 count rank set → AreCanonicalizing board set (slice_index canonicalizing rank)
   pub listed : (k : ℕ) → k < length representatives
       → (is_representative board count (slice_index representatives k) ≡ true) × (slice_index representatives k < 2 ^ n)
       × (classes_below board count (slice_index representatives k) ≡ k)
@@ -68,7 +68,7 @@ pub record IsKept (board : Shape) (n count to : ℕ) (classes leading representa
       → classes_below board count mask ≡ length representatives
 
 -- the same of all sets of `count` points
-pub record IsClasses (board : Shape) (n count : ℕ) (classes leading representatives : List ℕ) : Type 0 where
+pub record IsClasses (board : Shape) (n count : ℕ) (classes canonicalizing representatives : List ℕ) : Type 0 where
   pub few : count ≤ 9
   pub fits : count ≤ n
-  pub kept : IsKept board n count (choose n count) classes leading representatives
+  pub table : IsClassTable board n count (choose n count) classes canonicalizing representatives

@@ -8,7 +8,7 @@ use Rattle.morris_index.specs.Binomials.{choose}
 use Rattle.morris_index.specs.Numbering.{IsRanked}
 use Rattle.morris_index.specs.Pairs.{Counts, IsPair, is_of}
 use Rattle.morris_index.specs.Classes.{representative_of}
-use Rattle.morris_index.specs.ClassPairs.{class_half_size, class_index_of, led}
+use Rattle.morris_index.specs.ClassPairs.{class_half_size, class_index_of, canonical_form}
 use Rattle.morris_index.specs.ClassMoves.{class_half_start, class_start_of}
 use Rattle.morris_index.specs.Standings.{are_of}
 
@@ -33,17 +33,17 @@ pub record IsInRow (board : Shape) (n : ℕ) (row : InRow) (place : ℕ) (s : Si
 -- s is the position of the entry at a place, and all positions that have the entry are led to it
 pub record StandsIn (board : Shape) (n : ℕ) (row : InRow) (place : ℕ) (s : Sides) : Type 0 where
   pub inside : IsInRow board n row place s
-  pub led : (t : Sides) → IsPosition board t → is_of row.pair t ≡ true → class_index_of board n row.pair t ≡ row.first + place → s ≡ led board t
+  pub canonical_form : (t : Sides) → IsPosition board t → is_of row.pair t ≡ true → class_index_of board n row.pair t ≡ row.first + place → s ≡ canonical_form board t
 
 -- how many stones the opponent has where the player to move has the stones `own`
-abbrev pub opposed : Counts → ℕ → ℕ
-opposed c own = if nat_eq (count_of own) c.greater then c.lesser else c.greater
+abbrev pub opponent_count : Counts → ℕ → ℕ
+opponent_count c own = if nat_eq (count_of own) c.greater then c.lesser else c.greater
 
 -- The entry past the last one in which the player to move has the stones of the row, where these
 -- are a representative: there are as many as sets of the opponent's stones on the points left free.
 abbrev pub row_end : Shape → ℕ → InRow → ℕ
 row_end board n row =
-    class_start_of board n row.pair row.own (opposed row.pair row.own) + choose (n - count_of row.own) (opposed row.pair row.own)
+    class_start_of board n row.pair row.own (opponent_count row.pair row.own) + choose (n - count_of row.own) (opponent_count row.pair row.own)
 
 -- What is kept of the entries from `index` on in which the player to move has the stones `own`,
 -- among those with as many stones and `other` of the opponent: the sets of the opponent's stones,
@@ -60,7 +60,7 @@ pub record IsHalfRow (board : Shape) (n own other index : ℕ) (numbers : List �
 -- the same among all entries of the pair
 pub record IsEntryRow (board : Shape) (n : ℕ) (row : InRow) (numbers : List ℕ) : Type 0 where
   pub pair : IsPair n row.pair
-  pub counts : are_of row.pair (count_of row.own) (opposed row.pair row.own) ≡ true
+  pub counts : are_of row.pair (count_of row.own) (opponent_count row.pair row.own) ≡ true
   pub len : length numbers ≡ row.len
   pub first : (index : ℕ) × (index + (if nat_eq (count_of row.own) row.pair.greater then 0 else class_half_size board n row.pair.greater row.pair.lesser) ≡ row.first)
-      × IsHalfRow board n row.own (opposed row.pair row.own) index numbers
+      × IsHalfRow board n row.own (opponent_count row.pair row.own) index numbers

@@ -2,7 +2,7 @@
 use Rattle.std.specs.Prelude.{◌≡◌, ℕ, ◌-◌, ◌^◌, ◌<◌, ◌≤◌, nat_eq, true, List, if◌then◌else◌}
 use Rattle.morris_board.specs.Boards.{Shape}
 use Rattle.morris_index.specs.Binomials.{choose}
-use Rattle.morris_index.specs.Carried.{AreReturningKept}
+use Rattle.morris_index.specs.Unmoves.{AreTransversals}
 use Rattle.morris_index.specs.Classes.{class_count}
 use Rattle.morris_index.specs.ClassPairs.{class_half_size}
 use Rattle.morris_index.specs.Pairs.{Counts, IsPair}
@@ -20,7 +20,7 @@ half_of c own other = record { pair = c; own = own; other = other }
 -- What is kept of them, on n points: the number of points of the sets whose classes are kept and of
 -- those that the rows rank, the first of the entries, and for a class how many sets of the
 -- opponent's stones there are outside the representative.
-pub record IsHalfKept (board : Shape) (n : ℕ) (h : HalfOf) (sets ranked start each : ℕ) : Type 0 where
+pub record IsHalfTable (board : Shape) (n : ℕ) (h : HalfOf) (sets ranked start each : ℕ) : Type 0 where
   pub pair : IsPair n h.pair
   pub counts : are_of h.pair h.own h.other ≡ true
   pub classes : sets ≡ h.own
@@ -34,9 +34,9 @@ pub record IsHalfKept (board : Shape) (n : ℕ) (h : HalfOf) (sets ranked start 
 -- the number of points of the sets whose classes are kept; the symmetries that return from the
 -- images of the representatives; and of the list of the sets of `other` points that one of these
 -- leaves room for, of how many points they are taken, how many each has, and how many they are.
-pub record AreSetsKept (board : Shape) (n own other sets : ℕ) (returning : List ℕ) (points count each : ℕ) : Type 0 where
+pub record AreCountTables (board : Shape) (n own other sets : ℕ) (transversal : List ℕ) (points count each : ℕ) : Type 0 where
   pub classes : sets ≡ own
-  pub returns : AreReturningKept board n own (class_count board own) returning
+  pub returns : AreTransversals board n own (class_count board own) transversal
   pub left_free : points ≡ n - own
   pub others : count ≡ other
   pub choices : each ≡ choose (n - own) other

@@ -7,9 +7,9 @@ pub mod Moves
 pub mod Classes
 pub mod ClassPairs
 pub mod ClassMoves
-pub mod Falls
-pub mod Carried
-pub mod Facing
+pub mod Orbits
+pub mod Unmoves
+pub mod ByOpponent
 pub mod Standings
 pub mod Halves
 pub mod EntryRows

@@ -20,8 +20,8 @@ in_pair c s = record { pair = c; position = s }
 
 -- The position before a quiet move from u to v led to s: its stone stands on u again, and the
 -- player who made it is to move.
-abbrev pub taken_back : Sides → ℕ → ℕ → Sides
-taken_back s u v = sides (with_point (without_point s.other v) u) s.own
+abbrev pub unmove_sides : Sides → ℕ → ℕ → Sides
+unmove_sides s u v = sides (with_point (without_point s.other v) u) s.own
 
 -- the index of the first position of a pair in which the player to move has so many stones
 abbrev pub start_of : ℕ → Counts → ℕ → ℕ
@@ -41,12 +41,12 @@ pub record IsTakenBack (board : Shape) (n : ℕ) (q : InPair) (mover waiting : K
   pub pair : IsPair n q.pair
   pub moved : AreKept 1 0 q.position.other mover
   pub renumbered : AreKept 0 q.position.other q.position.own waiting
-  pub turned : index ≡ index_of n q.pair (sides q.position.other q.position.own)
+  pub swap_sides : index ≡ index_of n q.pair (sides q.position.other q.position.own)
   pub choices : sets ≡ choose (n - count_of q.position.other) (count_of q.position.own)
 
 -- The position after a quiet move from u to v: the stone stands on v, and the opponent is to move.
-abbrev pub moved_on : Sides → ℕ → ℕ → Sides
-moved_on s u v = sides s.other (with_point (without_point s.own u) v)
+abbrev pub move_sides : Sides → ℕ → ℕ → Sides
+move_sides s u v = sides s.other (with_point (without_point s.own u) v)
 
 -- what is kept of a position, on n points, for the indices of those after it
 pub record IsMovedOn (board : Shape) (n : ℕ) (q : InPair) (mover : KeptSums) (first : ℕ) : Type 0 where

@@ -28,18 +28,18 @@ abbrev pub is_pair : ℕ → Counts → Bool
 is_pair n c = nat_le c.greater 9 && (nat_le c.lesser c.greater && (nat_le 3 c.lesser && nat_le (c.greater + c.lesser) n))
 
 -- the pair of two numbers of stones, given in either order
-abbrev pub ordered : ℕ → ℕ → Counts
-ordered a b = if nat_le b a then counts a b else counts b a
+abbrev pub sort_counts : ℕ → ℕ → Counts
+sort_counts a b = if nat_le b a then counts a b else counts b a
 
 -- What two numbers of stones make on n points: a refusal where one of them isn't 3 to 9, then one
 -- where there are more stones than points, and otherwise their pair.
-abbrev pub pair_made : ℕ → ℕ → ℕ → Result Counts PairFault
-pair_made n a b =
-    if is_between 3 a 9 && is_between 3 b 9 then (if nat_le (a + b) n then Ok (ordered a b) else Err fault.Crowded) else Err fault.Counts
+abbrev pub make_pair : ℕ → ℕ → ℕ → Result Counts PairFault
+make_pair n a b =
+    if is_between 3 a 9 && is_between 3 b 9 then (if nat_le (a + b) n then Ok (sort_counts a b) else Err fault.Crowded) else Err fault.Counts
 
 -- the pair that a position belongs to: none where the player to move has two stones
 abbrev pub pair_of : Sides → Option Counts
-pair_of s = if nat_eq (count_of s.own) 2 then None else Some (ordered (count_of s.own) (count_of s.other))
+pair_of s = if nat_eq (count_of s.own) 2 then None else Some (sort_counts (count_of s.own) (count_of s.other))
 
 -- a pair is printed as its two numbers with a hyphen (45) between them
 abbrev pub pair_text : Counts → List ℕ
@@ -82,8 +82,8 @@ abbrev pub less_greater : Counts → Option Counts
 less_greater c = if nat_lt c.lesser c.greater then Some (counts (c.greater - 1) c.lesser) else None
 
 -- the pairs that a pair needs, as a list
-abbrev pub needed : Counts → List Counts
-needed c = option_to_list (less_lesser c) ++ option_to_list (less_greater c)
+abbrev pub all_needs : Counts → List Counts
+all_needs c = option_to_list (less_lesser c) ++ option_to_list (less_greater c)
 
 -- the same two, those that there are first
 abbrev pub needs_of : Counts → Option Counts × Option Counts
@@ -113,4 +113,4 @@ EndsIn cs c = (front : List Counts) × (cs ≡ front ++ c ∷ [])
 
 -- each pair of a list stands after all pairs that it needs
 abbrev pub NeedsFirst : List Counts → Type 0
-NeedsFirst cs = (before after : List Counts) (c need : Counts) → cs ≡ before ++ c ∷ after → Contains (needed c) need → Contains before need
+NeedsFirst cs = (before after : List Counts) (c need : Counts) → cs ≡ before ++ c ∷ after → Contains (all_needs c) need → Contains before need

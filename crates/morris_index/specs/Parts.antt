@@ -6,12 +6,12 @@ use Rattle.morris_index.specs.Sums.{total, sum_below}
 
 -- the mask of a point's number outside a set, and 0 for a point that isn't in `set` or is in
 -- `outside`
-abbrev pub weight : ℕ → ℕ → ℕ → ℕ
-weight outside set p = if has set p && not (has outside p) then 2 ^ number_outside outside p else 0
+abbrev pub bit_of_number : ℕ → ℕ → ℕ → ℕ
+bit_of_number outside set p = if has set p && not (has outside p) then 2 ^ number_outside outside p else 0
 
 -- the numbers outside a set of the points of another below n, as a set
-unfoldable pub squeezed_below : ℕ → ℕ → ℕ → ℕ
-squeezed_below outside set n = total (weight outside set) n
+unfoldable pub squeeze_below : ℕ → ℕ → ℕ → ℕ
+squeeze_below outside set n = total (bit_of_number outside set) n
 
 -- What the points of a part add to a rank, where the part has `width` points, its point i is the
 -- point start + i of the board, and `place` points of the set stand below the part.
@@ -40,4 +40,4 @@ pub record AreRankRows (count : ℕ) (first second : List ℕ) : Type 0 where
 -- A table of the squeezed rings: for each ring of eight points of an outer set and each of a set.
 pub record IsRingTable (rings : List ℕ) : Type 0 where
   pub len : length rings ≡ 65536
-  pub each : (outside points : ℕ) → outside < 256 → points < 256 → slice_index rings (outside * 256 + points) ≡ squeezed_below outside points 8
+  pub each : (outside points : ℕ) → outside < 256 → points < 256 → slice_index rings (outside * 256 + points) ≡ squeeze_below outside points 8

@@ -9,7 +9,7 @@ use Rattle.morris_index.specs.Pairs.{Counts, IsPair}
 use Rattle.morris_index.specs.Moves.{InPair, start_of}
 use Rattle.morris_index.specs.Classes.{symmetry_of, representative_of}
 use Rattle.morris_index.specs.ClassMoves.{class_start_of}
-use Rattle.morris_index.specs.Parts.{squeezed_below}
+use Rattle.morris_index.specs.Parts.{squeeze_below}
 use Rattle.morris_index.specs.declared.standing.Standing.{Standing}
 
 -- whether the pair has positions with so many stones of the player to move and of the opponent
@@ -28,7 +28,7 @@ pub record IsStanding (n : ℕ) (c : Counts) (other : ℕ) (standing : Standing)
 -- What is kept where the entries are numbered by classes: the symmetry that leads the own stones to
 -- the representative, this representative, outside which the images of the opponent's stones are
 -- ranked, how many of the points below 8 and below 16 it leaves free, and the first entry with it.
-pub record IsLedStanding (board : Shape) (n : ℕ) (c : Counts) (other : ℕ) (standing : Standing) : Type 0 where
+pub record IsCanonicalStanding (board : Shape) (n : ℕ) (c : Counts) (other : ℕ) (standing : Standing) : Type 0 where
   pub counts : are_of c (count_of standing.own) other ≡ true
   pub symmetry : standing.symmetry ≡ symmetry_of board standing.own
   pub place : standing.place ≡ representative_of board standing.own
@@ -41,9 +41,9 @@ pub record IsLedStanding (board : Shape) (n : ℕ) (c : Counts) (other : ℕ) (s
 -- stands on a representative: where the entries stand of positions with one stone more, the numbers
 -- of the opponent's stones among the points that the player to move leaves free, and how many
 -- stones there are with that one.
-pub record IsElsewhere (board : Shape) (n : ℕ) (at : InPair) (standing : Standing) (squeezed count : ℕ) : Type 0 where
+pub record IsElsewhere (board : Shape) (n : ℕ) (at : InPair) (standing : Standing) (squeeze count : ℕ) : Type 0 where
   pub counted : count ≡ suc (count_of at.position.other)
-  pub stands : IsLedStanding board n at.pair count standing
+  pub stands : IsCanonicalStanding board n at.pair count standing
   pub own : standing.own ≡ at.position.own
   pub least : representative_of board at.position.own ≡ at.position.own
-  pub numbers : squeezed ≡ squeezed_below at.position.own at.position.other 24
+  pub numbers : squeeze ≡ squeeze_below at.position.own at.position.other 24

@@ -63,7 +63,7 @@ pub fn binomial(n: u8, k: u8) -> u64
 /// greatest `n` up to 24 such that `n` things have at most `rank` subsets of `k`, and what is left
 /// of the rank. The numbers of a row never fall, so `n` is how many of them after the first are at
 /// most `rank`.
-pub(crate) fn highest(k: u8, rank: u32) -> (u8, u32)
+pub(crate) fn highest_point(k: u8, rank: u32) -> (u8, u32)
     requires some { 0 < k }
     requires chosen { k ≤ 9 }
     ensures point { result.0 ≤ 24 }

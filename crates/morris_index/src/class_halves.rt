@@ -2,20 +2,20 @@
 //! given numbers of stones, and the player to move stands on the representative of a class.
 ghost use Rattle.std.specs.Prelude.{◌≡◌, ◌<◌, ◌≤◌, ◌^◌, IfOk};
 ghost use Rattle.morris_board.specs.Sets.{count_of};
-ghost use Rattle.morris_index.specs.Classes.{representative_of, class_of, AreLeading};
+ghost use Rattle.morris_index.specs.Classes.{representative_of, class_of, AreCanonicalizing};
 ghost use Rattle.morris_index.specs.ClassPairs.{class_half_size};
 ghost use Rattle.morris_index.specs.ClassMoves.{class_start_of};
 ghost use Rattle.morris_index.specs.EntryRows.{IsHalfRow};
-ghost use Rattle.morris_index.specs.Halves.{half_of, IsHalfKept, AreSetsKept};
+ghost use Rattle.morris_index.specs.Halves.{half_of, IsHalfTable, AreCountTables};
 ghost use Rattle.morris_index.specs.Pairs.{IsHalf, IsPair};
 
 use crate::binomials::binomial;
 use crate::classes::Classes;
 use crate::pair::Pair;
 use crate::rank_tables::{RankRows, RankTable};
-use crate::returning::keep_returning;
 use crate::rings::Outside;
 use crate::set_lists::SetList;
+use crate::transversals::make_transversals;
 use morris_board::board::Geometry;
 use morris_board::points::Points;
 use std::alloc::{AllocError, Global};
@@ -23,33 +23,33 @@ use std::marker::Model;
 
 /// What is kept of the sets of one of a pair's numbers of stones.
 #[derive(Drop)]
-pub(crate) struct KeptSets<B: Geometry> {
+pub(crate) struct CountTables<B: Geometry> {
     /// Their classes.
     pub(crate) classes: Classes<B>,
     /// For each class, the symmetries that return from the images of its representative: their
     /// inverse is the one that leads the image.
-    pub(crate) returning: Vec<Points>,
+    pub(crate) transversal: Vec<Points>,
     /// The sets of the other number among the points that one of these leaves free.
     others: SetList,
     /// How many those are.
     pub(crate) choices: u64,
 }
 
-impl<B: Geometry> KeptSets<B> {
+impl<B: Geometry> CountTables<B> {
     /// What is kept of the sets of `own` points, where the other number is `other`.
     ///
     /// # Errors
     /// [`AllocError`] where memory runs out.
-    pub(crate) fn make(alloc: Global, own: u8, other: u8) -> Result<KeptSets<B>, AllocError>
+    pub(crate) fn make(alloc: Global, own: u8, other: u8) -> Result<CountTables<B>, AllocError>
         requires { IsHalf B.POINTS own other }
-        ensures { IfOk result (λ kept. AreSetsKept B.shape B.POINTS own other kept.classes kept.returning.items kept.others.points kept.others.count kept.choices) }
+        ensures { IfOk result (λ tables. AreCountTables B.shape B.POINTS own other tables.classes tables.transversal.items tables.others.points tables.others.count tables.choices) }
     {
         let others = SetList::make(alloc, B::POINTS - own, other)?;
         let classes = Classes::make(alloc, own)?;
-        let returning = keep_returning(alloc, &classes)?;
-        Ok(KeptSets {
+        let transversal = make_transversals(alloc, &classes)?;
+        Ok(CountTables {
             classes,
-            returning,
+            transversal,
             others,
             choices: binomial(B::POINTS - own, other),
         })
@@ -60,7 +60,7 @@ impl<B: Geometry> KeptSets<B> {
     /// it and in the further entries with these stones, as numbers of the points that are free.
     pub(crate) fn row(&self, own: u8, other: u8, index: u64) -> (Points, &[u32])
         requires half { IsHalf B.POINTS own other }
-        requires kept { AreSetsKept B.shape B.POINTS own other self.now.classes self.now.returning.items self.now.others.points self.now.others.count self.now.choices }
+        requires tables { AreCountTables B.shape B.POINTS own other self.now.classes self.now.transversal.items self.now.others.points self.now.others.count self.now.choices }
         requires small { index < class_half_size B.shape B.POINTS own other }
         ensures count { count_of result.0 ≡ own }
         ensures row { IsHalfRow B.shape B.POINTS result.0 other index result.1.now }
@@ -93,13 +93,13 @@ pub(crate) struct Half<'a, B: Geometry> {
 }
 
 impl<'a, B: Geometry> Model for Half<'a, B> {
-    ghost use Rattle.morris_index.specs.Halves.{HalfOf, half_of, IsHalfKept};
+    ghost use Rattle.morris_index.specs.Halves.{HalfOf, half_of, IsHalfTable};
 
     ghost Value = { HalfOf };
 
     ghost view = { λ half. half_of half.pair half.own half.other };
 
-    ghost invariant = { λ half. IsHalfKept B.shape B.POINTS (half_of half.pair half.own half.other) half.classes.now half.rows half.first half.choices };
+    ghost invariant = { λ half. IsHalfTable B.shape B.POINTS (half_of half.pair half.own half.other) half.classes.now half.rows half.first half.choices };
 }
 
 impl<'a, B: Geometry> Half<'a, B> {
@@ -115,7 +115,7 @@ impl<'a, B: Geometry> Half<'a, B> {
         choices: u64,
     ) -> Half<'a, B>
         requires few { own ≤ 9 }
-        requires kept { IsHalfKept B.shape B.POINTS (half_of pair own other) classes.now own first choices }
+        requires tables { IsHalfTable B.shape B.POINTS (half_of pair own other) classes.now own first choices }
         ensures { result ≡ half_of pair own other }
     {
         Half {
@@ -131,16 +131,16 @@ impl<'a, B: Geometry> Half<'a, B> {
 
     /// The first entry in which the player to move stands on the representative of the class of
     /// `own`, this representative, and all symmetries that lead `own` there.
-    pub(crate) fn leads_of(&self, own: Points) -> (u64, Outside, Points)
+    pub(crate) fn canonicalize(&self, own: Points) -> (u64, Outside, Points)
         requires within { own < 2 ^ B.POINTS }
         requires count { count_of own ≡ self.now.own }
         ensures start { result.0 ≡ class_start_of B.shape B.POINTS self.now.pair own self.now.other }
         ensures representative { result.1 ≡ representative_of B.shape own }
-        ensures symmetries { AreLeading B.shape own result.2 }
+        ensures symmetries { AreCanonicalizing B.shape own result.2 }
         ensures few { result.0 ≤ 2 ^ 54 }
         ensures lawful { IsPair B.POINTS self.now.pair }
     {
-        let (class, representative, symmetries) = self.classes.leads_of(&self.rows, own);
+        let (class, representative, symmetries) = self.classes.canonicalize(&self.rows, own);
         let start = self.first + u64::from(class) * self.choices;
         (start, representative, symmetries)
     }

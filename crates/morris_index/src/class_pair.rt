@@ -4,27 +4,27 @@ ghost use Rattle.std.specs.List.{AllPairs, Contains};
 ghost use Rattle.morris_board.specs.Sets.{has, members, count_of};
 ghost use Rattle.morris_board.specs.Positions.{Sides, sides, IsPosition};
 ghost use Rattle.morris_index.specs.Numbering.{rank_of, number_outside};
-ghost use Rattle.morris_index.specs.Parts.{squeezed_below};
+ghost use Rattle.morris_index.specs.Parts.{squeeze_below};
 ghost use Rattle.morris_index.specs.Pairs.{IsPair, is_of};
 ghost use Rattle.morris_index.specs.Classes.{symmetry_of, representative_of};
-ghost use Rattle.morris_index.specs.ClassPairs.{led, class_half_size, class_size_of, class_index_of};
+ghost use Rattle.morris_index.specs.ClassPairs.{canonical_form, class_half_size, class_size_of, class_index_of};
 ghost use Rattle.morris_index.specs.ClassMoves.{class_start_of};
 ghost use Rattle.morris_index.specs.EntryRows.{row_end};
-ghost use Rattle.morris_index.specs.Falls.{HasEntry, HasPositions, falls_from};
+ghost use Rattle.morris_index.specs.Orbits.{HasEntry, HasPositions, orbit_from};
 ghost use Rattle.morris_index.specs.Halves.{half_of};
-ghost use Rattle.morris_index.specs.Carried.{AreReturning};
+ghost use Rattle.morris_index.specs.Unmoves.{IsTransversal};
 ghost use Rattle.morris_index.specs.Standings.{are_of};
 
-use crate::class_halves::{Half, KeptSets};
+use crate::class_halves::{CountTables, Half};
 use crate::class_sizes::class_half_size;
-use crate::classes::first_leading;
+use crate::classes::least_canonicalizing;
 use crate::entry_rows::EntryRow;
-use crate::falls::FallsOn;
 use crate::halves::next_of_own;
+use crate::orbits::FallsOn;
 use crate::pair::Pair;
 use crate::rank_tables::{RankRows, RankTable};
-use crate::returning::returning_of;
 use crate::rings::Outside;
+use crate::transversals::transversal_of;
 use morris_board::board::Geometry;
 use morris_board::points::Points;
 use morris_board::position::Position;
@@ -36,8 +36,8 @@ use std::marker::Model;
 #[derive(Drop)]
 pub struct ClassPair<B: Geometry> {
     pair: Pair<B>,
-    greater: KeptSets<B>,
-    lesser: KeptSets<B>,
+    greater: CountTables<B>,
+    lesser: CountTables<B>,
     /// How many entries the first half has, in which the player to move has the greater number.
     first: u64,
     /// What the halves of sets add to ranks.
@@ -48,15 +48,15 @@ impl<B: Geometry> Model for ClassPair<B> {
     ghost use Rattle.std.specs.Prelude.{◌≡◌, ◌≤◌, ◌^◌};
     ghost use Rattle.morris_index.specs.Pairs.{Counts};
     ghost use Rattle.morris_index.specs.ClassPairs.{class_half_size};
-    ghost use Rattle.morris_index.specs.Halves.{AreSetsKept};
+    ghost use Rattle.morris_index.specs.Halves.{AreCountTables};
 
     ghost Value = { Counts };
 
     ghost view = { λ pair. pair.pair };
 
     ghost invariant = { λ pair. (pair.first ≡ class_half_size B.shape B.POINTS pair.pair.greater pair.pair.lesser) × (pair.first ≤ 2 ^ 39)
-        × AreSetsKept B.shape B.POINTS pair.pair.greater pair.pair.lesser pair.greater.classes pair.greater.returning.items pair.greater.others.points pair.greater.others.count pair.greater.choices
-        × AreSetsKept B.shape B.POINTS pair.pair.lesser pair.pair.greater pair.lesser.classes pair.lesser.returning.items pair.lesser.others.points pair.lesser.others.count pair.lesser.choices };
+        × AreCountTables B.shape B.POINTS pair.pair.greater pair.pair.lesser pair.greater.classes pair.greater.transversal.items pair.greater.others.points pair.greater.others.count pair.greater.choices
+        × AreCountTables B.shape B.POINTS pair.pair.lesser pair.pair.greater pair.lesser.classes pair.lesser.transversal.items pair.lesser.others.points pair.lesser.others.count pair.lesser.choices };
 }
 
 impl<B: Geometry> ClassPair<B> {
@@ -69,8 +69,8 @@ impl<B: Geometry> ClassPair<B> {
     {
         let (more, fewer) = (pair.greater(), pair.lesser());
         let ranks = RankTable::make(alloc)?;
-        let greater = KeptSets::<B>::make(alloc, more, fewer)?;
-        let lesser = KeptSets::<B>::make(alloc, fewer, more)?;
+        let greater = CountTables::<B>::make(alloc, more, fewer)?;
+        let lesser = CountTables::<B>::make(alloc, fewer, more)?;
         let first = class_half_size::<B>(greater.classes.count(), more, fewer);
         Ok(ClassPair {
             pair,
@@ -141,8 +141,12 @@ impl<B: Geometry> ClassPair<B> {
         ensures few { result.0 ≤ 2 ^ 54 }
     {
         let half = self.half(own.count(), other);
-        let (start, representative, leading) = half.leads_of(own);
-        (start, representative, first_leading::<B>(own, leading))
+        let (start, representative, canonicalizing) = half.canonicalize(own);
+        (
+            start,
+            representative,
+            least_canonicalizing::<B>(own, canonicalizing),
+        )
     }
 
     /// The entries in which the player to move has `own` stones and the opponent `other`.
@@ -152,7 +156,7 @@ impl<B: Geometry> ClassPair<B> {
     {
         // The proof learns here that the numbers of stones are those of a pair.
         let greater = self.pair.greater();
-        let (kept, first) = if own == greater {
+        let (tables, first) = if own == greater {
             (&self.greater, 0)
         } else {
             (&self.lesser, self.first)
@@ -161,10 +165,10 @@ impl<B: Geometry> ClassPair<B> {
             self.pair,
             own,
             other,
-            &kept.classes,
+            &tables.classes,
             &self.ranks,
             first,
-            kept.choices,
+            tables.choices,
         )
     }
 
@@ -186,7 +190,7 @@ impl<B: Geometry> ClassPair<B> {
     pub(crate) fn numbers_outside(&self, set: Points, outside: Points) -> (Points, RankRows<'_>)
         requires board { set < 2 ^ 24 }
         requires few { count_of set < 9 }
-        ensures numbers { result.0 ≡ squeezed_below outside set 24 }
+        ensures numbers { result.0 ≡ squeeze_below outside set 24 }
         ensures rows { result.1 ≡ count_of set + 1 }
     {
         let rows = self.ranks.rows(set.count() + 1);
@@ -194,21 +198,21 @@ impl<B: Geometry> ClassPair<B> {
     }
 
     /// The symmetries whose inverse is the one that leads the image of `own` under them.
-    pub(crate) fn returning_of(&self, own: Points, other: Points) -> Points
+    pub(crate) fn transversal_of(&self, own: Points, other: Points) -> Points
         requires within { own < 2 ^ B.POINTS }
         requires counts { is_of self.now (sides own other) ≡ true }
-        ensures { AreReturning B.shape own result }
+        ensures { IsTransversal B.shape own result }
     {
         // The proof learns here that the numbers of stones are those of a pair.
         let greater = self.pair.greater();
         let count = own.count();
-        let kept = if count == greater {
+        let tables = if count == greater {
             &self.greater
         } else {
             &self.lesser
         };
         let rows = self.ranks.rows(count);
-        returning_of(&kept.classes, &rows, &kept.returning, own)
+        transversal_of(&tables.classes, &rows, &tables.transversal, own)
     }
 
     /// The position of an entry, below [`ClassPair::size`]: the one to which all positions with
@@ -219,14 +223,14 @@ impl<B: Geometry> ClassPair<B> {
         ensures counts { is_of self.now result ≡ true }
         ensures lawful { IsPosition B.shape result }
         ensures own { representative_of B.shape result.own ≡ result.own }
-        ensures led { (s : Sides) → IsPosition B.shape s → is_of self.now s ≡ true → class_index_of B.shape B.POINTS self.now s ≡ index → result ≡ led B.shape s }
+        ensures canonical_form { (s : Sides) → IsPosition B.shape s → is_of self.now s ≡ true → class_index_of B.shape B.POINTS self.now s ≡ index → result ≡ canonical_form B.shape s }
     {
         self.row_from(index).position(0)
     }
 
     /// [`ClassPair::position`], where the position of the entry before is at hand. It is found from
     /// that one while the player to move stands on the same representative.
-    pub fn following(&self, before: &Position<B>, index: u64) -> Position<B>
+    pub fn next_position(&self, before: &Position<B>, index: u64) -> Position<B>
         requires counts { is_of self.now before.now ≡ true }
         requires own { representative_of B.shape before.now.own ≡ before.now.own }
         requires before { class_index_of B.shape B.POINTS self.now before.now + 1 ≡ index }
@@ -235,7 +239,7 @@ impl<B: Geometry> ClassPair<B> {
         ensures counts { is_of self.now result ≡ true }
         ensures lawful { IsPosition B.shape result }
         ensures own { representative_of B.shape result.own ≡ result.own }
-        ensures led { (s : Sides) → IsPosition B.shape s → is_of self.now s ≡ true → class_index_of B.shape B.POINTS self.now s ≡ index → result ≡ led B.shape s }
+        ensures canonical_form { (s : Sides) → IsPosition B.shape s → is_of self.now s ≡ true → class_index_of B.shape B.POINTS self.now s ≡ index → result ≡ canonical_form B.shape s }
     {
         // The proof learns the rules of a position where its stones are read.
         let _ = before.own();
@@ -274,11 +278,11 @@ impl<B: Geometry> ClassPair<B> {
         ensures few { length result ≤ B.SYMMETRIES }
     {
         let position = self.position(index);
-        self.falls_to(position)
+        self.orbit_of(position)
     }
 
     /// How many positions have each of the entries of a row of the pair: as many as the first one.
-    pub fn share(&self, row: &EntryRow<'_, B>) -> u64
+    pub fn orbit_size(&self, row: &EntryRow<'_, B>) -> u64
         requires { row.now.pair ≡ self.now }
         ensures each { (place : ℕ) → place < row.now.len → HasPositions B.shape B.POINTS self.now (row.now.first + place) result }
         ensures few { result ≤ 16 }
@@ -286,20 +290,20 @@ impl<B: Geometry> ClassPair<B> {
         // The proof learns here that there is an entry, and what stands in each.
         let _ = row.len();
         let first = row.position(0);
-        self.falls_to(first).count() as u64
+        self.orbit_of(first).count() as u64
     }
 
     /// The positions that are led to `position`, one of the pair.
-    fn falls_to(&self, position: Position<B>) -> FallsOn<'_, B>
+    fn orbit_of(&self, position: Position<B>) -> FallsOn<'_, B>
         requires { is_of self.now position ≡ true }
-        ensures value { result ≡ falls_from B.shape position 0 }
+        ensures value { result ≡ orbit_from B.shape position 0 }
         ensures few { length result ≤ B.SYMMETRIES }
     {
-        let kept = if position.own().count() == self.pair.greater() {
+        let tables = if position.own().count() == self.pair.greater() {
             &self.greater
         } else {
             &self.lesser
         };
-        FallsOn::of(&kept.classes, position)
+        FallsOn::of(&tables.classes, position)
     }
 }

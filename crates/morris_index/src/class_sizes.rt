@@ -7,7 +7,7 @@ ghost use Rattle.morris_index.specs.Pairs.{IsHalf};
 
 use crate::binomials::binomial;
 use crate::pair::Pair;
-use crate::ranks::{following, least};
+use crate::ranks::{least, next_set};
 use morris_board::board::Geometry;
 use morris_board::points::Points;
 
@@ -52,7 +52,7 @@ fn class_count<B: Geometry>(count: u8) -> u32
         if is_representative::<B>(count, set) {
             classes += 1;
         }
-        if let Some(next) = following(B::POINTS, Points::EMPTY, set) {
+        if let Some(next) = next_set(B::POINTS, Points::EMPTY, set) {
             set = next;
         }
     }

@@ -4,11 +4,11 @@ ghost use Rattle.morris_board.specs.Sets.{count_of};
 ghost use Rattle.morris_board.specs.Symmetries.{image_of};
 ghost use Rattle.morris_index.specs.Binomials.{choose};
 ghost use Rattle.morris_index.specs.Numbering.{IsRanked};
-ghost use Rattle.morris_index.specs.Classes.{symmetry_of, representative_of, is_representative, classes_below, class_of, class_count, AreLeading, IsKept, classes_in, leading_in};
+ghost use Rattle.morris_index.specs.Classes.{symmetry_of, representative_of, is_representative, classes_below, class_of, class_count, AreCanonicalizing, IsClassTable, classes_in, canonicalizing_in};
 
 use crate::binomials::binomial;
 use crate::rank_tables::RankRows;
-use crate::ranks::{self, following, least};
+use crate::ranks::{self, least, next_set};
 use crate::rings::Outside;
 use morris_board::board::Geometry;
 use morris_board::points::Points;
@@ -20,36 +20,36 @@ use std::marker::{Model, PhantomData};
 #[derive(Drop)]
 pub struct Classes<B: Geometry> {
     count: u8,
-    kept: Kept,
+    table: ClassTable,
     board: PhantomData<B>,
 }
 
 impl<B: Geometry> Model for Classes<B> {
     ghost use Rattle.std.specs.Prelude.{ℕ, ◌≤◌};
     ghost use Rattle.morris_index.specs.Binomials.{choose};
-    ghost use Rattle.morris_index.specs.Classes.{IsClasses, classes_in, leading_in};
+    ghost use Rattle.morris_index.specs.Classes.{IsClasses, classes_in, canonicalizing_in};
 
     ghost Value = { ℕ };
 
     ghost view = { λ classes. classes.count };
 
-    ghost invariant = { λ classes. IsClasses B.shape B.POINTS classes.count (classes_in classes.kept.leads.items) (leading_in classes.kept.leads.items) classes.kept.representatives.items };
+    ghost invariant = { λ classes. IsClasses B.shape B.POINTS classes.count (classes_in classes.table.set_classes.items) (canonicalizing_in classes.table.set_classes.items) classes.table.representatives.items };
 }
 
 /// What is kept of a set of points.
 #[derive(Clone, Copy)]
-struct Lead {
+struct SetClass {
     /// Its class.
     class: u32,
     /// The mask of all symmetries that lead to its representative.
-    leading: u32,
+    canonicalizing: u32,
 }
 
 /// What is kept of sets of points: at the rank of each, where it is led; and the representatives,
 /// in the order of their classes.
 #[derive(Drop)]
-struct Kept {
-    leads: Vec<Lead>,
+struct ClassTable {
+    set_classes: Vec<SetClass>,
     representatives: Vec<Outside>,
 }
 
@@ -64,14 +64,14 @@ impl<B: Geometry> Classes<B> {
         requires fits { count ≤ B.POINTS }
         ensures { IfOk result (λ classes. classes ≡ count) }
     {
-        let mut kept = Kept {
-            leads: Vec::with_capacity(alloc, binomial(B::POINTS, count) as usize)?,
+        let mut table = ClassTable {
+            set_classes: Vec::with_capacity(alloc, binomial(B::POINTS, count) as usize)?,
             representatives: Vec::new(alloc),
         };
-        keep_all::<B>(&mut kept, count)?;
+        fill_table::<B>(&mut table, count)?;
         Ok(Classes {
             count,
-            kept,
+            table,
             board: PhantomData,
         })
     }
@@ -82,7 +82,7 @@ impl<B: Geometry> Classes<B> {
         ensures value { result ≡ class_count B.shape self.now }
         ensures few { result ≤ choose B.POINTS self.now }
     {
-        self.kept.representatives.len() as u32
+        self.table.representatives.len() as u32
     }
 
     /// The class of a set of as many points as the classes are of, and the least symmetry that
@@ -95,25 +95,32 @@ impl<B: Geometry> Classes<B> {
         ensures symmetry { result.1 ≡ symmetry_of B.shape set }
         ensures one { result.1 < B.SYMMETRIES }
     {
-        let lead = self.kept.leads[ranks::rank(set) as usize];
-        let leading = Points::from_mask(lead.leading);
-        (lead.class, first_leading::<B>(set, leading))
+        let set_class = self.table.set_classes[ranks::rank(set) as usize];
+        let canonicalizing = Points::from_mask(set_class.canonicalizing);
+        (
+            set_class.class,
+            least_canonicalizing::<B>(set, canonicalizing),
+        )
     }
 
     /// The class of a set of as many points as the classes are of, its representative, and all
     /// symmetries that lead the set there.
-    pub(crate) fn leads_of(&self, rows: &RankRows<'_>, set: Points) -> (u32, Outside, Points)
+    pub(crate) fn canonicalize(&self, rows: &RankRows<'_>, set: Points) -> (u32, Outside, Points)
         requires within { set < 2 ^ B.POINTS }
         requires count { count_of set ≡ self.now }
         requires rows { rows.now ≡ self.now }
         ensures class { result.0 ≡ class_of B.shape set }
         ensures below { result.0 < class_count B.shape self.now }
         ensures representative { result.1 ≡ representative_of B.shape set }
-        ensures symmetries { AreLeading B.shape set result.2 }
+        ensures symmetries { AreCanonicalizing B.shape set result.2 }
     {
-        let lead = self.kept.leads[rows.rank(set) as usize];
-        let symmetries = Points::from_mask(lead.leading);
-        (lead.class, self.outside_of(lead.class), symmetries)
+        let set_class = self.table.set_classes[rows.rank(set) as usize];
+        let symmetries = Points::from_mask(set_class.canonicalizing);
+        (
+            set_class.class,
+            self.outside_of(set_class.class),
+            symmetries,
+        )
     }
 
     /// The representative of a class, below [`Classes::count`]: of all its sets the one with the
@@ -136,35 +143,35 @@ impl<B: Geometry> Classes<B> {
         ensures class { class_of B.shape result ≡ class }
         ensures within { result < 2 ^ B.POINTS }
     {
-        self.kept.representatives[class as usize]
+        self.table.representatives[class as usize]
     }
 }
 
 /// The least of all symmetries that lead a set to its representative.
-pub(crate) fn first_leading<B: Geometry>(set: Points, leading: Points) -> u8
+pub(crate) fn least_canonicalizing<B: Geometry>(set: Points, canonicalizing: Points) -> u8
     requires within { set < 2 ^ B.POINTS }
-    requires leading { AreLeading B.shape set leading }
+    requires canonicalizing { AreCanonicalizing B.shape set canonicalizing }
     ensures symmetry { result ≡ symmetry_of B.shape set }
     ensures one { result < B.SYMMETRIES }
 {
-    match leading.first() {
+    match canonicalizing.first() {
         Some(symmetry) => symmetry,
         None => unreachable!(),
     }
 }
 
 /// Keeps where all sets of `count` points are led, in the order of their ranks, where none is kept.
-fn keep_all<B: Geometry>(kept: &mut Kept, count: u8) -> Result<(), AllocError>
+fn fill_table<B: Geometry>(table: &mut ClassTable, count: u8) -> Result<(), AllocError>
     requires few { count ≤ 9 }
     requires fits { count ≤ B.POINTS }
-    requires before { IsKept B.shape B.POINTS count 0 (classes_in kept.old.leads.items) (leading_in kept.old.leads.items) kept.old.representatives.items }
-    ensures { OnOk result (IsKept B.shape B.POINTS count (choose B.POINTS count) (classes_in kept.new.leads.items) (leading_in kept.new.leads.items) kept.new.representatives.items) }
+    requires before { IsClassTable B.shape B.POINTS count 0 (classes_in table.old.set_classes.items) (canonicalizing_in table.old.set_classes.items) table.old.representatives.items }
+    ensures { OnOk result (IsClassTable B.shape B.POINTS count (choose B.POINTS count) (classes_in table.new.set_classes.items) (canonicalizing_in table.new.set_classes.items) table.new.representatives.items) }
 {
     let sets = binomial(B::POINTS, count);
     let mut set = least(B::POINTS, Points::EMPTY, count);
     for index in 0..sets {
-        keep::<B>(kept, count, index, set)?;
-        if let Some(next) = following(B::POINTS, Points::EMPTY, set) {
+        add_set::<B>(table, count, index, set)?;
+        if let Some(next) = next_set(B::POINTS, Points::EMPTY, set) {
             set = next;
         }
     }
@@ -173,24 +180,29 @@ fn keep_all<B: Geometry>(kept: &mut Kept, count: u8) -> Result<(), AllocError>
 
 /// Keeps where the set of `count` points with this rank is led, where that of the sets of all
 /// lesser ranks is kept. A set that is its own representative has the next class.
-fn keep<B: Geometry>(kept: &mut Kept, count: u8, rank: u64, set: Points) -> Result<(), AllocError>
+fn add_set<B: Geometry>(
+    table: &mut ClassTable,
+    count: u8,
+    rank: u64,
+    set: Points,
+) -> Result<(), AllocError>
     requires few { count ≤ 9 }
     requires fits { count ≤ B.POINTS }
     requires ranked { IsRanked B.POINTS 0 count rank set }
-    requires before { IsKept B.shape B.POINTS count rank (classes_in kept.old.leads.items) (leading_in kept.old.leads.items) kept.old.representatives.items }
-    ensures { OnOk result (IsKept B.shape B.POINTS count (rank + 1) (classes_in kept.new.leads.items) (leading_in kept.new.leads.items) kept.new.representatives.items) }
+    requires before { IsClassTable B.shape B.POINTS count rank (classes_in table.old.set_classes.items) (canonicalizing_in table.old.set_classes.items) table.old.representatives.items }
+    ensures { OnOk result (IsClassTable B.shape B.POINTS count (rank + 1) (classes_in table.new.set_classes.items) (canonicalizing_in table.new.set_classes.items) table.new.representatives.items) }
 {
-    let (least, leading) = least_image::<B>(set);
+    let (least, canonicalizing) = least_image::<B>(set);
     let class = if least.mask() == set.mask() {
-        let next = kept.representatives.len() as u32;
-        kept.representatives.push(Outside::of(set))?;
+        let next = table.representatives.len() as u32;
+        table.representatives.push(Outside::of(set))?;
         next
     } else {
-        kept.leads[ranks::rank(least) as usize].class
+        table.set_classes[ranks::rank(least) as usize].class
     };
-    kept.leads.push(Lead {
+    table.set_classes.push(SetClass {
         class,
-        leading: leading.mask(),
+        canonicalizing: canonicalizing.mask(),
     })?;
     Ok(())
 }
@@ -199,18 +211,18 @@ fn keep<B: Geometry>(kept: &mut Kept, count: u8, rank: u64, set: Points) -> Resu
 fn least_image<B: Geometry>(set: Points) -> (Points, Points)
     requires { set < 2 ^ B.POINTS }
     ensures image { result.0 ≡ representative_of B.shape set }
-    ensures leading { AreLeading B.shape set result.1 }
+    ensures canonicalizing { AreCanonicalizing B.shape set result.1 }
 {
     let mut least = set;
-    let mut leading = Points::EMPTY.with(0);
+    let mut canonicalizing = Points::EMPTY.with(0);
     for other in 1..B::SYMMETRIES {
         let image = B::image_of(other, set);
         if image.mask() < least.mask() {
             least = image;
-            leading = Points::EMPTY.with(other);
+            canonicalizing = Points::EMPTY.with(other);
         } else if image.mask() == least.mask() {
-            leading = leading.with(other);
+            canonicalizing = canonicalizing.with(other);
         }
     }
-    (least, leading)
+    (least, canonicalizing)
 }

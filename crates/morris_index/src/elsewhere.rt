@@ -6,7 +6,7 @@ ghost use Rattle.morris_index.specs.Classes.{representative_of};
 ghost use Rattle.morris_index.specs.ClassPairs.{class_size_of, class_index_of};
 ghost use Rattle.morris_index.specs.Moves.{in_pair};
 ghost use Rattle.morris_index.specs.Pairs.{is_of};
-ghost use Rattle.morris_index.specs.Standings.{IsLedStanding};
+ghost use Rattle.morris_index.specs.Standings.{IsCanonicalStanding};
 
 use crate::class_pair::ClassPair;
 use crate::pair::Pair;
@@ -60,7 +60,7 @@ impl<B: Geometry> ClassPair<B> {
         requires counts { is_of self.now position.now ≡ true }
         requires least { representative_of B.shape position.now.own ≡ position.now.own }
         requires own { standing.now.own ≡ position.now.own }
-        requires stands { IsLedStanding B.shape B.POINTS self.now (count_of position.now.other) standing.now }
+        requires stands { IsCanonicalStanding B.shape B.POINTS self.now (count_of position.now.other) standing.now }
         requires stone { has position.now.other point ≡ true }
         ensures value { result ≡ in_pair self.now (sides position.now.own (without_point position.now.other point)) }
         ensures lawful { IsPosition B.shape position.now }

@@ -4,10 +4,10 @@ ghost use Rattle.std.specs.Prelude.{◌≡◌, ℕ, ◌+◌, ◌-◌, ◌<◌, �
 ghost use Rattle.morris_board.specs.Sets.{count_of};
 ghost use Rattle.morris_board.specs.Positions.{Sides, IsPosition};
 ghost use Rattle.morris_index.specs.Classes.{representative_of};
-ghost use Rattle.morris_index.specs.ClassPairs.{led, class_index_of};
+ghost use Rattle.morris_index.specs.ClassPairs.{canonical_form, class_index_of};
 ghost use Rattle.morris_index.specs.EntryRows.{in_row, IsInRow, IsEntryRow, StandsIn};
 ghost use Rattle.morris_index.specs.Pairs.{is_of};
-ghost use Rattle.morris_index.specs.Parts.{squeezed_below};
+ghost use Rattle.morris_index.specs.Parts.{squeeze_below};
 
 use crate::pair::Pair;
 use crate::ranks::spread;
@@ -80,7 +80,7 @@ impl<'a, B: Geometry> EntryRow<'a, B> {
     pub fn numbers(&self, place: usize) -> Points
         requires { place < self.now.len }
         ensures stands { (s : Sides) × IsInRow B.shape B.POINTS self.now place s }
-        ensures value { (s : Sides) → IsInRow B.shape B.POINTS self.now place s → result ≡ squeezed_below self.now.own s.other B.POINTS }
+        ensures value { (s : Sides) → IsInRow B.shape B.POINTS self.now place s → result ≡ squeeze_below self.now.own s.other B.POINTS }
         ensures within { result < 2 ^ (B.POINTS - count_of self.now.own) }
     {
         let numbers = self.numbers;
@@ -96,7 +96,7 @@ impl<'a, B: Geometry> EntryRow<'a, B> {
         ensures counts { is_of self.now.pair result ≡ true }
         ensures lawful { IsPosition B.shape result }
         ensures own { result.own ≡ self.now.own }
-        ensures led { (s : Sides) → IsPosition B.shape s → is_of self.now.pair s ≡ true → class_index_of B.shape B.POINTS self.now.pair s ≡ self.now.first + place → result ≡ led B.shape s }
+        ensures canonical_form { (s : Sides) → IsPosition B.shape s → is_of self.now.pair s ≡ true → class_index_of B.shape B.POINTS self.now.pair s ≡ self.now.first + place → result ≡ canonical_form B.shape s }
     {
         let numbers = self.numbers;
         let other = spread(Points::from_mask(numbers[place]), self.own);

@@ -7,7 +7,7 @@ ghost use Rattle.morris_index.specs.Numbering.{half_size, half_index};
 ghost use Rattle.morris_index.specs.Pairs.{has_counts, IsHalf};
 
 use crate::binomials::binomial;
-use crate::ranks::{following, rank, rank_outside, unrank};
+use crate::ranks::{next_set, rank, rank_outside, unrank};
 use morris_board::board::Geometry;
 use morris_board::points::Points;
 use morris_board::position::Position;
@@ -60,7 +60,7 @@ pub(crate) fn next_of_own<B: Geometry>(position: &Position<B>) -> Option<Positio
     ensures lawful { IfSome result (IsPosition B.shape) }
 {
     let own = position.own();
-    let other = following(B::POINTS, own, position.other())?;
+    let other = next_set(B::POINTS, own, position.other())?;
     match Position::new(own, other) {
         Ok(next) => Some(next),
         Err(_) => None,

@@ -2,7 +2,7 @@
 ghost use Rattle.std.specs.Prelude.{◌≡◌, ◌+◌, ◌<◌, ◌≤◌, ◌^◌, ◌++◌, length, true, IfSome};
 ghost use Rattle.std.specs.Option.{option_to_list};
 ghost use Rattle.morris_board.specs.Positions.{Sides, IsPosition, is_between};
-ghost use Rattle.morris_index.specs.Pairs.{counts, IsPair, pair_made, pair_of, is_of, size_of, index_of, needs_of, needed, below_of, EndsIn, NeedsFirst};
+ghost use Rattle.morris_index.specs.Pairs.{counts, IsPair, make_pair, pair_of, is_of, size_of, index_of, needs_of, all_needs, below_of, EndsIn, NeedsFirst};
 ghost use Rattle.morris_index.specs.Moves.{start_of};
 ghost use Rattle.morris_index.specs.Numbering.{half_size};
 
@@ -47,7 +47,7 @@ impl<B: Geometry> Pair<B> {
     /// [`PairFault::Counts`] where a number isn't 3 to 9, else [`PairFault::Crowded`] where the
     /// board has fewer points than there are stones.
     pub fn new(a: u8, b: u8) -> Result<Pair<B>, PairFault>
-        ensures { result ≡ pair_made B.POINTS a b }
+        ensures { result ≡ make_pair B.POINTS a b }
     {
         if !is_count(a) || !is_count(b) {
             return Err(PairFault::Counts);
@@ -100,7 +100,7 @@ impl<B: Geometry> Pair<B> {
     /// stand first.
     pub fn needs(&self) -> (Option<Pair<B>>, Option<Pair<B>>)
         ensures value { result ≡ needs_of self.now }
-        ensures all { option_to_list result.0 ++ option_to_list result.1 ≡ needed self.now }
+        ensures all { option_to_list result.0 ++ option_to_list result.1 ≡ all_needs self.now }
     {
         let less_greater = if self.lesser < self.greater {
             Some(Pair::from_counts(self.greater - 1, self.lesser))
@@ -202,7 +202,7 @@ impl<B: Geometry> Pair<B> {
 
     /// [`Pair::position`], where the position before is at hand. It is found from that one while
     /// the points of the player to move stay the same.
-    pub fn following(&self, before: &Position<B>, index: u64) -> Position<B>
+    pub fn next_position(&self, before: &Position<B>, index: u64) -> Position<B>
         requires counts { is_of self.now before.now ≡ true }
         requires before { index_of B.POINTS self.now before.now + 1 ≡ index }
         requires inside { index < size_of B.POINTS self.now }

@@ -3,7 +3,7 @@ ghost use Rattle.std.specs.Prelude.{◌≡◌, ◌<◌, ◌||◌, ◌++◌, not,
 ghost use Rattle.morris_board.specs.Sets.{has};
 ghost use Rattle.morris_index.specs.Pairs.{is_of};
 ghost use Rattle.morris_index.specs.Moves.{in_pair};
-ghost use Rattle.morris_index.specs.Carried.{entries_before, AddsEntries};
+ghost use Rattle.morris_index.specs.Unmoves.{entry_predecessors, AddsEntries};
 
 use crate::class_halves::Half;
 use crate::class_pair::ClassPair;
@@ -27,21 +27,21 @@ pub struct PredecessorEntries<'a, B: Geometry> {
     before: Half<'a, B>,
     /// The symmetries whose inverse is the one that leads the image of the stones of the player to
     /// move under them.
-    returning: Points,
+    transversal: Points,
 }
 
 impl<'a, B: Geometry> Model for PredecessorEntries<'a, B> {
     ghost use Rattle.morris_index.specs.Moves.{InPair, in_pair};
     ghost use Rattle.std.specs.Prelude.{◌≡◌};
     ghost use Rattle.morris_board.specs.Sets.{count_of};
-    ghost use Rattle.morris_index.specs.Carried.{IsCarriedBack};
+    ghost use Rattle.morris_index.specs.Unmoves.{HasTransversal};
     ghost use Rattle.morris_index.specs.Halves.{half_of};
 
     ghost Value = { InPair };
 
     ghost view = { λ entries. in_pair entries.pair.now entries.position };
 
-    ghost invariant = { λ entries. IsCarriedBack B.shape (in_pair entries.pair.now entries.position) entries.returning × (entries.count ≡ count_of entries.position.own)
+    ghost invariant = { λ entries. HasTransversal B.shape (in_pair entries.pair.now entries.position) entries.transversal × (entries.count ≡ count_of entries.position.own)
         × (entries.before ≡ half_of entries.pair.now (count_of entries.position.other) (count_of entries.position.own)) };
 }
 
@@ -51,14 +51,14 @@ impl<'a, B: Geometry> PredecessorEntries<'a, B> {
         requires { is_of pair.now position.now ≡ true }
         ensures { result ≡ in_pair pair.now position.now }
     {
-        let returning = pair.returning_of(position.own(), position.other());
+        let transversal = pair.transversal_of(position.own(), position.other());
         let count = position.own().count();
         PredecessorEntries {
             pair,
             position: *position,
             count,
             before: pair.half(position.other().count(), count),
-            returning,
+            transversal,
         }
     }
 
@@ -76,12 +76,12 @@ impl<'a, B: Geometry> PredecessorEntries<'a, B> {
         requires end { has self.now.position.other to ≡ true }
         ensures added { OnOk result (AddsEntries B.shape B.POINTS self.now.pair self.now.position from to out.old.items out.new.items) }
         // In which order: that of the symmetries.
-        ensures carried { OnOk result (out.new.items ≡ out.old.items ++ entries_before B.shape B.POINTS self.now.pair self.now.position from to) }
+        ensures in_order { OnOk result (out.new.items ≡ out.old.items ++ entry_predecessors B.shape B.POINTS self.now.pair self.now.position from to) }
     {
         let mover = self.position.other().without(to).with(from);
-        let (start, representative, leading) = self.before.leads_of(mover);
-        let carrying = leading.common(self.returning);
-        for symmetry in carrying.iter() {
+        let (start, representative, canonicalizing) = self.before.canonicalize(mover);
+        let member_symmetries = canonicalizing.intersection(self.transversal);
+        for symmetry in member_symmetries.iter() {
             let image = B::image_of(symmetry, self.position.own());
             out.push(
                 self.pair

@@ -2,7 +2,7 @@
 ghost use Rattle.std.specs.Prelude.{◌≡◌, ℕ, ◌<◌, ◌^◌, ◌||◌, ◌++◌, not, nat_lt, true, map, OnOk};
 ghost use Rattle.morris_board.specs.Sets.{has, members};
 ghost use Rattle.morris_index.specs.Pairs.{is_of, index_of};
-ghost use Rattle.morris_index.specs.Moves.{in_pair, taken_back, end_taken_back};
+ghost use Rattle.morris_index.specs.Moves.{in_pair, unmove_sides, end_taken_back};
 
 use crate::binomials::binomial;
 use crate::pair::Pair;
@@ -26,7 +26,7 @@ pub struct PredecessorIndices<B: Geometry> {
     /// The sums of the stones of the player to move, which stay.
     renumbered: KeptSums,
     /// The index of the position with the same stones in which the opponent is to move.
-    turned: u64,
+    swap_sides: u64,
     /// How many sets of as many stones as the player to move has here there are outside the stones
     /// of the opponent.
     choices: u64,
@@ -39,7 +39,7 @@ impl<B: Geometry> Model for PredecessorIndices<B> {
 
     ghost view = { λ indices. in_pair indices.pair indices.position };
 
-    ghost invariant = { λ indices. IsTakenBack B.shape B.POINTS (in_pair indices.pair indices.position) indices.moved indices.renumbered indices.turned indices.choices };
+    ghost invariant = { λ indices. IsTakenBack B.shape B.POINTS (in_pair indices.pair indices.position) indices.moved indices.renumbered indices.swap_sides indices.choices };
 }
 
 impl<B: Geometry> PredecessorIndices<B> {
@@ -60,7 +60,7 @@ impl<B: Geometry> PredecessorIndices<B> {
             position: *position,
             moved,
             renumbered,
-            turned: pair.start_of(other.count()) + (moved.rank * choices + renumbered.rank),
+            swap_sides: pair.start_of(other.count()) + (moved.rank * choices + renumbered.rank),
             choices,
         }
     }
@@ -86,10 +86,10 @@ impl<B: Geometry> PredecessorIndices<B> {
         requires start { from < B.POINTS }
         requires vacant { not (has self.now.position.own from || has self.now.position.other from) ≡ true }
         requires end { has self.now.position.other to ≡ true }
-        ensures { result ≡ index_of B.POINTS self.now.pair (taken_back self.now.position from to) }
+        ensures { result ≡ index_of B.POINTS self.now.pair (unmove_sides self.now.position from to) }
     {
         let lower = from < to;
-        (self.turned + self.end(from, lower)) - self.end(to, lower)
+        (self.swap_sides + self.end(from, lower)) - self.end(to, lower)
     }
 
     /// Adds what [`PredecessorIndices::add`] adds, for sources that all lie below `to`, or all past
@@ -106,12 +106,12 @@ impl<B: Geometry> PredecessorIndices<B> {
         requires end { has self.now.position.other to ≡ true }
         requires sources { (p : ℕ) → has sources p ≡ true → (p < B.POINTS) × (not (has self.now.position.own p || has self.now.position.other p) ≡ true) }
         requires side { (p : ℕ) → has sources p ≡ true → nat_lt p to ≡ lower }
-        ensures { OnOk result (out.new.items ≡ out.old.items ++ map (λ p. index_of B.POINTS self.now.pair (taken_back self.now.position p to)) (members sources)) }
+        ensures { OnOk result (out.new.items ≡ out.old.items ++ map (λ p. index_of B.POINTS self.now.pair (unmove_sides self.now.position p to)) (members sources)) }
     {
-        let turned = self.turned;
+        let swap_sides = self.swap_sides;
         let gone = self.end(to, lower);
         for from in sources.iter() {
-            out.push((turned + self.end(from, lower)) - gone)?;
+            out.push((swap_sides + self.end(from, lower)) - gone)?;
         }
         Ok(())
     }
@@ -125,12 +125,12 @@ impl<B: Geometry> PredecessorIndices<B> {
     pub fn add(&self, to: u8, sources: Points, out: &mut Vec<u64>) -> Result<(), AllocError>
         requires end { has self.now.position.other to ≡ true }
         requires sources { (p : ℕ) → has sources p ≡ true → (p < B.POINTS) × (not (has self.now.position.own p || has self.now.position.other p) ≡ true) }
-        ensures { OnOk result (out.new.items ≡ out.old.items ++ map (λ p. index_of B.POINTS self.now.pair (taken_back self.now.position p to)) (members sources)) }
+        ensures { OnOk result (out.new.items ≡ out.old.items ++ map (λ p. index_of B.POINTS self.now.pair (unmove_sides self.now.position p to)) (members sources)) }
     {
         // The proof learns here that `to` is a point of the board.
         let _ = self.position.other();
         let below = Points::below(to);
-        self.add_from(to, sources.common(below), true, out)?;
-        self.add_from(to, sources.less(below), false, out)
+        self.add_from(to, sources.intersection(below), true, out)?;
+        self.add_from(to, sources.difference(below), false, out)
     }
 }

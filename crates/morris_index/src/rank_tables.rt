@@ -2,7 +2,7 @@
 ghost use Rattle.std.specs.Prelude.{◌≡◌, ℕ, ◌+◌, ◌-◌, ◌*◌, ◌<◌, ◌≤◌, ◌^◌, true, false, map, IfOk};
 ghost use Rattle.morris_board.specs.Sets.{has, members, count_of};
 ghost use Rattle.morris_index.specs.Numbering.{count_below, rank_of, number_outside};
-ghost use Rattle.morris_index.specs.Parts.{part_rank, squeezed_below, IsRankTable};
+ghost use Rattle.morris_index.specs.Parts.{part_rank, squeeze_below, IsRankTable};
 
 use crate::binomials::binomial;
 use crate::rings::{Outside, RingTable};
@@ -96,9 +96,9 @@ impl RankTable {
     /// The numbers of the points of `set` outside another set.
     pub(crate) fn numbers(&self, set: Points, outside: Outside) -> Points
         requires { set < 2 ^ 24 }
-        ensures { result ≡ squeezed_below outside set 24 }
+        ensures { result ≡ squeeze_below outside set 24 }
     {
-        self.rings.squeezed(set, outside)
+        self.rings.squeeze(set, outside)
     }
 
     /// The rank of `set` among the sets of as many points, which are `count`, that have none in
@@ -110,7 +110,7 @@ impl RankTable {
         requires apart { (p : ℕ) → has set p ≡ true → has outside p ≡ false }
         ensures { result ≡ rank_of (map (number_outside outside) (members set)) }
     {
-        self.rows(count).rank(self.rings.squeezed(set, outside))
+        self.rows(count).rank(self.rings.squeeze(set, outside))
     }
 }
 

@@ -3,9 +3,9 @@ ghost use Rattle.std.specs.Prelude.{◌≡◌, ℕ, suc, ◌<◌, ◌≤◌, ◌
 ghost use Rattle.morris_board.specs.Sets.{has, members, count_of};
 ghost use Rattle.morris_index.specs.Binomials.{choose};
 ghost use Rattle.morris_index.specs.Numbering.{rank_of, number_outside, IsRanked};
-ghost use Rattle.morris_index.specs.Parts.{squeezed_below};
+ghost use Rattle.morris_index.specs.Parts.{squeeze_below};
 
-use crate::binomials::{binomial, highest};
+use crate::binomials::{binomial, highest_point};
 use morris_board::points::Points;
 
 /// The rank of `set` among the sets of as many points.
@@ -42,7 +42,7 @@ pub(crate) fn spread(numbers: Points, outside: Points) -> Points
     requires fits { numbers < 2 ^ number_outside outside 24 }
     ensures within { result < 2 ^ 24 }
     ensures apart { (p : ℕ) → has result p ≡ true → has outside p ≡ false }
-    ensures squeezed { squeezed_below outside result 24 ≡ numbers }
+    ensures squeeze { squeeze_below outside result 24 ≡ numbers }
 {
     let mut spread = numbers.mask();
     // Each point of `outside` moves up by one what stands there or past it.
@@ -73,7 +73,7 @@ pub(crate) fn unrank(points: u8, outside: Points, count: u8, rank: u64) -> Point
     let mut left = count;
     let mut rest = rank as u32;
     while left > 1 {
-        let (number, lower) = highest(left, rest);
+        let (number, lower) = highest_point(left, rest);
         numbers = numbers.with(number);
         rest = lower;
         left -= 1;
@@ -107,7 +107,7 @@ pub(crate) fn least(end: u8, outside: Points, count: u8) -> Points
 
 /// The set of as many points below `points`, none of them in `outside`, that comes next in the
 /// order of ranks.
-pub(crate) fn following(points: u8, outside: Points, set: Points) -> Option<Points>
+pub(crate) fn next_set(points: u8, outside: Points, set: Points) -> Option<Points>
     requires board { points ≤ 24 }
     requires within { set < 2 ^ points }
     requires apart { (p : ℕ) → has set p ≡ true → has outside p ≡ false }
@@ -118,10 +118,14 @@ pub(crate) fn following(points: u8, outside: Points, set: Points) -> Option<Poin
     let first = set.first()?;
     // The free points above the set's first one.
     let free = Points::below(points)
-        .less(Points::below(first))
-        .less(set)
-        .less(outside);
+        .difference(Points::below(first))
+        .difference(set)
+        .difference(outside);
     let point = free.first()?;
     let least = least(point, outside, set.count_below(point) - 1);
-    Some(set.less(Points::below(point)).with(point).joined(least))
+    Some(
+        set.difference(Points::below(point))
+            .with(point)
+            .union(least),
+    )
 }

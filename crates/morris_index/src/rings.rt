@@ -4,7 +4,7 @@
 ghost use Rattle.std.specs.Prelude.{◌≡◌, ℕ, ◌<◌, ◌≤◌, ◌^◌, true, false, IfOk};
 ghost use Rattle.morris_board.specs.Sets.{has};
 ghost use Rattle.morris_index.specs.Numbering.{number_outside};
-ghost use Rattle.morris_index.specs.Parts.{squeezed_below, IsRingTable};
+ghost use Rattle.morris_index.specs.Parts.{squeeze_below, IsRingTable};
 
 use crate::ranks::number_outside;
 use morris_board::points::Points;
@@ -65,20 +65,20 @@ pub(crate) struct RingTable {
 }
 
 /// The numbers of the points of a ring outside a ring of another set, as a ring.
-fn squeezed_ring(outside: u32, points: u32) -> u8
+fn squeeze_ring(outside: u32, points: u32) -> u8
     requires outside { outside < 256 }
     requires points { points < 256 }
-    ensures { result ≡ squeezed_below outside points 8 }
+    ensures { result ≡ squeeze_below outside points 8 }
 {
     let taken = Points::from_mask(outside);
-    let set = Points::from_mask(points).less(taken);
-    let mut squeezed = 0;
+    let set = Points::from_mask(points).difference(taken);
+    let mut squeeze = 0;
     for point in 0..8_u8 {
         if set.has(point) {
-            squeezed += 1 << number_outside(taken, point);
+            squeeze += 1 << number_outside(taken, point);
         }
     }
-    squeezed
+    squeeze
 }
 
 impl RingTable {
@@ -89,7 +89,7 @@ impl RingTable {
     pub(crate) fn make(alloc: Global) -> Result<RingTable, AllocError> {
         let mut rings = Vec::with_capacity(alloc, RINGS as usize)?;
         for at in 0..RINGS {
-            rings.push(squeezed_ring(at / 256, at % 256))?;
+            rings.push(squeeze_ring(at / 256, at % 256))?;
         }
         Ok(RingTable { rings })
     }
@@ -98,16 +98,16 @@ impl RingTable {
     fn ring(&self, outside: u32, points: u32) -> u32
         requires outside { outside < 256 }
         requires points { points < 256 }
-        ensures value { result ≡ squeezed_below outside points 8 }
+        ensures value { result ≡ squeeze_below outside points 8 }
         ensures small { result < 256 }
     {
         u32::from(self.rings[(outside * 256 + points) as usize])
     }
 
     /// The set of the numbers of the points of `set` outside another set.
-    pub(crate) fn squeezed(&self, set: Points, outside: Outside) -> Points
+    pub(crate) fn squeeze(&self, set: Points, outside: Outside) -> Points
         requires { set < 2 ^ 24 }
-        ensures { result ≡ squeezed_below outside set 24 }
+        ensures { result ≡ squeeze_below outside set 24 }
     {
         let points = set.mask();
         let taken = outside.points.mask();

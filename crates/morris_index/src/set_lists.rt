@@ -4,7 +4,7 @@ ghost use Rattle.morris_index.specs.Binomials.{choose};
 ghost use Rattle.morris_index.specs.Numbering.{IsRanked, AreRanked};
 
 use crate::binomials::binomial;
-use crate::ranks::{following, least};
+use crate::ranks::{least, next_set};
 use morris_board::points::Points;
 use std::alloc::{AllocError, Global};
 
@@ -35,7 +35,7 @@ impl SetList {
         let mut set = least(points, Points::EMPTY, count);
         for _index in 0..all {
             sets.push(set.mask())?;
-            if let Some(next) = following(points, Points::EMPTY, set) {
+            if let Some(next) = next_set(points, Points::EMPTY, set) {
                 set = next;
             }
         }

@@ -5,7 +5,7 @@ ghost use Rattle.morris_board.specs.Positions.{sides, IsPosition};
 ghost use Rattle.morris_board.specs.Symmetries.{image_of};
 ghost use Rattle.morris_index.specs.Pairs.{size_of, index_of};
 ghost use Rattle.morris_index.specs.ClassPairs.{class_size_of, class_index_of};
-ghost use Rattle.morris_index.specs.Standings.{are_of, IsStanding, IsLedStanding};
+ghost use Rattle.morris_index.specs.Standings.{are_of, IsStanding, IsCanonicalStanding};
 
 use crate::binomials::binomial;
 use crate::class_pair::ClassPair;
@@ -35,7 +35,7 @@ pub struct Standing {
 
 /// The image of a set under the symmetry that leads a position. Mostly the player to move stands on
 /// a representative, and this is the identity.
-fn image_led<B: Geometry>(symmetry: u8, set: Points) -> Points
+fn canonical_image<B: Geometry>(symmetry: u8, set: Points) -> Points
     requires symmetry { symmetry < B.SYMMETRIES }
     requires within { set < 2 ^ B.POINTS }
     ensures { result ≡ image_of (B.shape.image symmetry) set }
@@ -87,7 +87,7 @@ impl<B: Geometry> ClassPair<B> {
         requires within { own < 2 ^ B.POINTS }
         requires counts { are_of self.now (count_of own) other ≡ true }
         ensures own { result.own ≡ own }
-        ensures stands { IsLedStanding B.shape B.POINTS self.now other result }
+        ensures stands { IsCanonicalStanding B.shape B.POINTS self.now other result }
     {
         let (start, place, symmetry) = self.start_of(own, other);
         Standing {
@@ -103,12 +103,12 @@ impl<B: Geometry> ClassPair<B> {
     /// The entry of the position with these own stones in which the opponent has the stones
     /// `other`, below [`ClassPair::size`]. They are as many as the standing was asked for.
     pub fn entry_at(&self, standing: &Standing, other: Points) -> u64
-        requires stands { IsLedStanding B.shape B.POINTS self.now (count_of other) standing.now }
+        requires stands { IsCanonicalStanding B.shape B.POINTS self.now (count_of other) standing.now }
         requires lawful { IsPosition B.shape (sides standing.now.own other) }
         ensures value { result ≡ class_index_of B.shape B.POINTS self.now (sides standing.now.own other) }
         ensures below { result < class_size_of B.shape B.POINTS self.now }
     {
-        let image = image_led::<B>(standing.symmetry, other);
+        let image = canonical_image::<B>(standing.symmetry, other);
         let place = Outside {
             points: standing.place,
             second: standing.second,

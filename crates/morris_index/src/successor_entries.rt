@@ -2,8 +2,8 @@
 ghost use Rattle.std.specs.Prelude.{◌≡◌, ◌<◌, ◌||◌, not, true};
 ghost use Rattle.morris_board.specs.Sets.{has};
 ghost use Rattle.morris_index.specs.Pairs.{is_of};
-ghost use Rattle.morris_index.specs.Moves.{in_pair, moved_on};
-ghost use Rattle.morris_index.specs.ClassMoves.{IsLedOn};
+ghost use Rattle.morris_index.specs.Moves.{in_pair, move_sides};
+ghost use Rattle.morris_index.specs.ClassMoves.{IsCanonicalOn};
 ghost use Rattle.morris_index.specs.ClassPairs.{class_index_of};
 
 use crate::class_pair::ClassPair;
@@ -26,7 +26,7 @@ pub struct SuccessorEntries<'a, B: Geometry> {
     /// The symmetry that leads the positions after it.
     symmetry: u8,
     /// The image of the position under this symmetry.
-    led: Position<B>,
+    canonical_form: Position<B>,
     /// The images of the stones that the opponent has here.
     place: Outside,
     /// The first entry in which the player to move stands on these.
@@ -37,13 +37,13 @@ impl<'a, B: Geometry> Model for SuccessorEntries<'a, B> {
     ghost use Rattle.std.specs.Prelude.{◌≡◌};
     ghost use Rattle.morris_board.specs.Sets.{count_of};
     ghost use Rattle.morris_index.specs.Moves.{InPair, in_pair};
-    ghost use Rattle.morris_index.specs.ClassMoves.{IsLedOn};
+    ghost use Rattle.morris_index.specs.ClassMoves.{IsCanonicalOn};
 
     ghost Value = { InPair };
 
     ghost view = { λ entries. in_pair entries.pair.now entries.position };
 
-    ghost invariant = { λ entries. IsLedOn B.shape B.POINTS (in_pair entries.pair.now entries.position) entries.symmetry entries.led entries.start × (entries.count ≡ count_of entries.position.own) × (entries.place ≡ entries.led.other) };
+    ghost invariant = { λ entries. IsCanonicalOn B.shape B.POINTS (in_pair entries.pair.now entries.position) entries.symmetry entries.canonical_form entries.start × (entries.count ≡ count_of entries.position.own) × (entries.place ≡ entries.canonical_form.other) };
 }
 
 impl<'a, B: Geometry> SuccessorEntries<'a, B> {
@@ -56,13 +56,13 @@ impl<'a, B: Geometry> SuccessorEntries<'a, B> {
         let (start, place, symmetry) = pair.start_of(position.other(), count);
         // The proof learns here that the numbers of stones are those of a pair.
         let _ = pair.pair();
-        let led = position.image(symmetry);
+        let canonical_form = position.image(symmetry);
         SuccessorEntries {
             pair,
             position: *position,
             count,
             symmetry,
-            led,
+            canonical_form,
             place,
             start,
         }
@@ -71,16 +71,16 @@ impl<'a, B: Geometry> SuccessorEntries<'a, B> {
     /// The same of a position whose image under the symmetry of the opponent's stones is known,
     /// with what is kept of the stones that the opponent has there, and the first entry in which
     /// the player to move has these.
-    pub(crate) fn led_by(
+    pub(crate) fn canonical_by(
         pair: &'a ClassPair<B>,
         position: Position<B>,
         symmetry: u8,
-        led: Position<B>,
+        canonical_form: Position<B>,
         place: Outside,
         start: u64,
     ) -> SuccessorEntries<'a, B>
-        requires led { IsLedOn B.shape B.POINTS (in_pair pair.now position) symmetry led start }
-        requires place { place ≡ led.other }
+        requires canonical_form { IsCanonicalOn B.shape B.POINTS (in_pair pair.now position) symmetry canonical_form start }
+        requires place { place ≡ canonical_form.other }
         ensures { result ≡ in_pair pair.now position }
     {
         SuccessorEntries {
@@ -88,7 +88,7 @@ impl<'a, B: Geometry> SuccessorEntries<'a, B> {
             position,
             count: position.own().count(),
             symmetry,
-            led,
+            canonical_form,
             place,
             start,
         }
@@ -107,11 +107,15 @@ impl<'a, B: Geometry> SuccessorEntries<'a, B> {
         requires start { has self.now.position.own from ≡ true }
         requires end { to < B.POINTS }
         requires vacant { not (has self.now.position.own to || has self.now.position.other to) ≡ true }
-        ensures value { result ≡ class_index_of B.shape B.POINTS self.now.pair (moved_on self.now.position from to) }
+        ensures value { result ≡ class_index_of B.shape B.POINTS self.now.pair (move_sides self.now.position from to) }
     {
-        let led_from = B::image(self.symmetry, from);
-        let led_to = B::image(self.symmetry, to);
-        let moved = self.led.own().without(led_from).with(led_to);
+        let canonical_from = B::image(self.symmetry, from);
+        let canonical_to = B::image(self.symmetry, to);
+        let moved = self
+            .canonical_form
+            .own()
+            .without(canonical_from)
+            .with(canonical_to);
         self.pair
             .entry_outside(self.start, moved, self.count, self.place)
     }

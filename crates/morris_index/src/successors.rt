@@ -2,7 +2,7 @@
 ghost use Rattle.std.specs.Prelude.{◌≡◌, ◌<◌, ◌||◌, not, true};
 ghost use Rattle.morris_board.specs.Sets.{has};
 ghost use Rattle.morris_index.specs.Pairs.{is_of, index_of};
-ghost use Rattle.morris_index.specs.Moves.{in_pair, moved_on};
+ghost use Rattle.morris_index.specs.Moves.{in_pair, move_sides};
 
 use crate::binomials::binomial;
 use crate::pair::Pair;
@@ -60,7 +60,7 @@ impl<B: Geometry> SuccessorIndices<B> {
         requires start { has self.now.position.own from ≡ true }
         requires end { to < B.POINTS }
         requires vacant { not (has self.now.position.own to || has self.now.position.other to) ≡ true }
-        ensures { result ≡ index_of B.POINTS self.now.pair (moved_on self.now.position from to) }
+        ensures { result ≡ index_of B.POINTS self.now.pair (move_sides self.now.position from to) }
     {
         let own = self.position.own();
         let other = self.position.other();

@@ -9,15 +9,15 @@ use Rattle.morris_index.specs.Pairs.{Counts, size_of}
 use Rattle.morris_probe.specs.Lines.{number_line}
 use Rattle.morris_jobs.specs.Counted.{csv_depths, csv_half, csv_lesser, csv_line, csv_text, depth_label, depth_line, depth_lines, stats_text}
 use Rattle.morris_jobs.specs.Verified.{verified_text}
-use Rattle.morris_jobs.specs.Faults.{fault_number, fault_text, fault_words, length_around, own_text, said, stones_text}
+use Rattle.morris_jobs.specs.Faults.{fault_number, fault_text, fault_words, length_around, own_text, words_of, stones_text}
 use Rattle.morris_jobs.specs.declared.fault.Fault.{Fault}
 use Rattle.morris_jobs.specs.declared.fault.Fault.TheVariants as fault
 use Rattle.morris_jobs.specs.declared.wording.Words.{Words}
 use Rattle.morris_jobs.specs.declared.wording.Words.TheVariants.{Plain, Number, Pair}
-use Rattle.morris_jobs.specs.declared.progress.News.{News}
-use Rattle.morris_jobs.specs.declared.progress.News.TheVariants as news
-use Rattle.morris_jobs.specs.declared.progress.SoFar.{SoFar}
-use Rattle.morris_jobs.specs.Progress.{is_passing, labelled, left_text, news_line, news_text, percent_of, so_far_text}
+use Rattle.morris_jobs.specs.declared.progress_printer.ProgressEvent.{ProgressEvent}
+use Rattle.morris_jobs.specs.declared.progress_printer.ProgressEvent.TheVariants as event
+use Rattle.morris_jobs.specs.declared.progress_printer.SoFar.{SoFar}
+use Rattle.morris_jobs.specs.Progress.{is_passing, with_label, left_text, event_line, event_text, percent_of, so_far_text}
 
 -- ---- counts, as lines of text
 
@@ -96,18 +96,18 @@ verified_few pair entries = simp length-append (omega (arith, decimal_few pair.g
 
 -- ---- faults
 
-said_few : (words : Words) → length (said words) ≤ length_around words + 129
+said_few : (words : Words) → length (words_of words) ≤ length_around words + 129
 said_few (Plain text) = omega arith
 said_few (Number before number after) = simp length-append (omega (arith, decimal_few number))
 said_few (Pair before greater lesser after) = simp length-append (omega (arith, decimal_few greater, decimal_few lesser))
 
 -- of a fault with these words
-text_few : (f : Fault) (words : Words) → said words ≡ own_text f → length_around words ≤ 64 → length (fault_text f) ≤ 339
+text_few : (f : Fault) (words : Words) → words_of words ≡ own_text f → length_around words ≤ 64 → length (fault_text f) ≤ 339
 text_few (fault.InFile greater lesser f) words e around =
     simp length-append (omega (arith, decimal_few greater, decimal_few lesser, said_few words, around, ap length e))
 text_few f words e around = omega (arith, said_few words, around, ap length e)
 
-pub fault_few : (f : Fault) (words : Words) → said words ≡ own_text f → length_around words ≤ 64 → length (fault_words f) ≤ 2 ^ 9
+pub fault_few : (f : Fault) (words : Words) → words_of words ≡ own_text f → length_around words ≤ 64 → length (fault_words f) ≤ 2 ^ 9
 unfolding fault_words
 fault_few f words e around = simp length-append (omega (arith, text_few f words e around, decimal_few (fault_number f)))
 
@@ -116,9 +116,9 @@ fault_few f words e around = simp length-append (omega (arith, text_few f words 
 left_few : (seconds : ℕ) → length (left_text seconds) ≤ 81
 left_few seconds =
     let minutes : ℕ = seconds / 60 + seconds % 60 / 30 in
-    by_test (nat_eq seconds 0) 81 [] (if nat_lt seconds 120 then labelled (codes ", about ") seconds ++ codes " s left"
-    else labelled (codes ", about ") minutes ++ codes " min left") (omega arith)
-    (by_test (nat_lt seconds 120) 81 (labelled (codes ", about ") seconds ++ codes " s left") (labelled (codes ", about ") minutes ++ codes " min left")
+    by_test (nat_eq seconds 0) 81 [] (if nat_lt seconds 120 then with_label (codes ", about ") seconds ++ codes " s left"
+    else with_label (codes ", about ") minutes ++ codes " min left") (omega arith)
+    (by_test (nat_lt seconds 120) 81 (with_label (codes ", about ") seconds ++ codes " s left") (with_label (codes ", about ") minutes ++ codes " min left")
     (simp length-append (omega (arith, decimal_few seconds))) (simp length-append (omega (arith, decimal_few minutes))))
 
 -- what is told of a pair, after so many bytes
@@ -127,19 +127,19 @@ so_far_few front s few =
     simp length-append
     (omega (arith, few, decimal_few s.done, decimal_few s.whole, decimal_few (percent_of s.done s.whole), decimal_few s.seconds, left_few s.left))
 
-news_few : (n : News) → length (news_text n) ≤ 700
-news_few (news.Whole entries megabytes) = simp length-append (omega (arith, decimal_few entries, decimal_few megabytes))
-news_few (news.Wave greater lesser wave s) =
-    so_far_few (codes "progress: " ++ stones_text greater lesser ++ labelled (codes " wave ") wave) s
+event_few : (n : ProgressEvent) → length (event_text n) ≤ 700
+event_few (event.Whole entries megabytes) = simp length-append (omega (arith, decimal_few entries, decimal_few megabytes))
+event_few (event.Wave greater lesser wave s) =
+    so_far_few (codes "progress: " ++ stones_text greater lesser ++ with_label (codes " wave ") wave) s
     (simp length-append (omega (arith, decimal_few greater, decimal_few lesser, decimal_few wave)))
-news_few (news.Part greater lesser s) =
+event_few (event.Part greater lesser s) =
     so_far_few (codes "progress: " ++ stones_text greater lesser) s (simp length-append (omega (arith, decimal_few greater, decimal_few lesser)))
-news_few (news.Done greater lesser s) =
+event_few (event.Done greater lesser s) =
     so_far_few (codes "progress: " ++ stones_text greater lesser ++ codes " done") s (simp length-append (omega (arith, decimal_few greater, decimal_few lesser)))
-news_few news.Cleared = omega arith
+event_few event.Cleared = omega arith
 
-pub news_line_few : (rewrites : Bool) (n : News) → length (news_line rewrites n) < 2 ^ 63
-news_line_few false n = simp length-append (omega (arith, news_few n))
-news_line_few true n =
+pub event_line_few : (rewrites : Bool) (n : ProgressEvent) → length (event_line rewrites n) < 2 ^ 63
+event_line_few false n = simp length-append (omega (arith, event_few n))
+event_line_few true n =
     let end : length (if is_passing n then [] else (10 ∷ [])) ≤ 1 = by_test (is_passing n) 1 [] (10 ∷ []) (omega arith) (omega arith) in
-    simp length-append (omega (arith, news_few n, end))
+    simp length-append (omega (arith, event_few n, end))

@@ -7,13 +7,13 @@ use Rattle.std.proofs.lemmas.List.Elements.{Contains-append_left, Contains-appen
 use Rattle.std.proofs.lemmas.Option.{cond_some}
 use Rattle.morris_moves.proofs.ListLaws.{Ascends, Contains-cons_cases, Contains-head, all_contained}
 use Rattle.morris_board.specs.Boards.{Shape}
-use Rattle.morris_index.specs.Pairs.{Counts, NeedsFirst, all_pairs, below_of, counts, is_below, less_greater, less_lesser, needed}
+use Rattle.morris_index.specs.Pairs.{Counts, NeedsFirst, all_pairs, below_of, counts, is_below, less_greater, less_lesser, all_needs}
 use Rattle.morris_pairs.specs.declared.layout.Layout.{Layout}
-use Rattle.morris_pairs.specs.Shelves.{Stored, first_missing, kept_from, table_on}
+use Rattle.morris_pairs.specs.Shelves.{Stored, first_missing, retained_from, table_on}
 use Rattle.morris_pairs.proofs.BackLawsLists.{Ascends-filter}
 use Rattle.morris_pairs.proofs.GraphLaws.{needed_cases}
 use Rattle.morris_pairs.proofs.ShelfLaws.{cases_pair, none-missing}
-use Rattle.morris_jobs.specs.Orders.{HasExactAt, IsSpared, KeepsNear, stones}
+use Rattle.morris_jobs.specs.Building.{HasExactAt, ArePruned, RetainsNear, stones}
 
 -- none has fewer stones than one before it
 abbrev Rises : List Counts → Type 0
@@ -49,7 +49,7 @@ below-rises pair before after c d split m =
     rises_to before after c d (subst Rises (sym split) (Ascends-filter (λ c d. stones c ≤ stones d) (is_below pair) all_pairs all_rise)) m
 
 -- a pair needs tables of one stone less
-pub needs-one_less : (c d : Counts) → Contains (needed c) d → stones d + 1 ≡ stones c
+pub needs-one_less : (c d : Counts) → Contains (all_needs c) d → stones d + 1 ≡ stones c
 needs-one_less c d m = elim (needed_cases c d m) [
   | inl lesser ↦
       let is = cond_some (ltb 3 c.lesser) (counts c.greater (c.lesser - 1)) d lesser in
@@ -65,12 +65,12 @@ needs-one_less c d m = elim (needed_cases c d m) [
 -- it has the fewest stones.
 pub follows : (pair : Counts) (before after : List Counts) (c last : Counts) → NeedsFirst (below_of pair) → before ++ (c ∷ after) ≡ below_of pair
     → ((d : Counts) → Contains before d → stones d ≤ stones last) → 6 ≤ stones last → stones c ≤ stones last + 1
-follows pair before after c last order split most six = by_lesser (ltb 3 c.lesser) refl
+follows pair before after c last build_args split most six = by_lesser (ltb 3 c.lesser) refl
   where
-    within : (need : Counts) → Contains (needed c) need → stones c ≤ stones last + 1
+    within : (need : Counts) → Contains (all_needs c) need → stones c ≤ stones last + 1
     within need m =
         let up = needs-one_less c need m in
-        omega (arith, up, most need (order before after c need (sym split) m))
+        omega (arith, up, most need (build_args before after c need (sym split) m))
 
     by_greater : (b : Bool) → ltb c.lesser c.greater ≡ b → c.lesser ≤ 3 → stones c ≤ stones last + 1
     by_greater true more few =
@@ -106,8 +106,8 @@ IsLast done last = ((d : Counts) → Contains done d → stones d ≤ stones las
 -- the next pair has at most one stone more than that one
 pub last_near : (pair : Counts) (before after : List Counts) (c : Counts) (waiting : Option Counts) → NeedsFirst (below_of pair)
     → before ++ (c ∷ after) ≡ below_of pair → IfSome waiting (IsLast before) → IfSome waiting (λ last. stones c ≤ stones last + 1)
-last_near pair before after c None order split last = tt
-last_near pair before after c (Some d) order split last = follows pair before after c d order split last.0 last.1
+last_near pair before after c None build_args split last = tt
+last_near pair before after c (Some d) build_args split last = follows pair before after c d build_args split last.0 last.1
 
 -- a pair to come may need the table of this one: none of those so far has two stones more
 abbrev pub IsNear : List Counts → Counts → Type 0
@@ -115,22 +115,22 @@ IsNear done d = (e : Counts) → Contains done e → stones e ≤ stones d + 1
 
 -- there are the exact tables of all pairs so far that one to come may need
 abbrev pub HasNear : Shape → Layout → Stored → List Counts → Type 0
-HasNear board l stock done = (d : Counts) → Contains done d → IsNear done d → HasExactAt board l stock d
+HasNear board l tables done = (d : Counts) → Contains done d → IsNear done d → HasExactAt board l tables d
 
-module _ (board : Shape) (l : Layout) (pair : Counts) (before after : List Counts) (c : Counts) (order : NeedsFirst (below_of pair)) (split : before ++ (c ∷ after) ≡ below_of pair) where
-  near : (need : Counts) → Contains (needed c) need → IsNear before need
+module _ (board : Shape) (l : Layout) (pair : Counts) (before after : List Counts) (c : Counts) (build_args : NeedsFirst (below_of pair)) (split : before ++ (c ∷ after) ≡ below_of pair) where
+  near : (need : Counts) → Contains (all_needs c) need → IsNear before need
   near need m = λ e k. omega (arith, below-rises pair before after c e split k, needs-one_less c need m)
 
   -- the next pair finds the tables that it needs, also once those of fewer stones are let go
-  pub near-ready : (stock kept : Stored) → HasNear board l stock before → IsSpared stock kept c → first_missing kept c ≡ None
-  near-ready stock kept has goes = none-missing kept c (λ need m.
-      let at = has need (order before after c need (sym split) m) (near need m) in
+  pub near-ready : (tables unchanged : Stored) → HasNear board l tables before → ArePruned tables unchanged c → first_missing unchanged c ≡ None
+  near-ready tables unchanged has goes = none-missing unchanged c (λ need m.
+      let at = has need (build_args before after c need (sym split) m) (near need m) in
       ap is_some (goes need (omega (arith, needs-one_less c need m)) ∙ at.1))
 
   -- with its own table there are again all that one to come may need
-  pub near-more : (stock kept new : Stored) → HasNear board l stock before → IsSpared stock kept c
-      → HasExactAt board l new c → ((d : Counts) → d ≢ c → table_on new d ≡ table_on kept d) → HasNear board l new (before ++ c ∷ [])
-  near-more stock kept new has goes here others = λ d m is_near. elim (cases_pair d c) [
+  pub near-more : (tables unchanged new : Stored) → HasNear board l tables before → ArePruned tables unchanged c
+      → HasExactAt board l new c → ((d : Counts) → d ≢ c → table_on new d ≡ table_on unchanged d) → HasNear board l new (before ++ c ∷ [])
+  near-more tables unchanged new has goes here others = λ d m is_near. elim (cases_pair d c) [
     | inl same ↦ subst (HasExactAt board l new) (sym same) here
     | inr apart ↦ elim (Contains-push_cases before c d m) [
       | inl earlier ↦
@@ -142,8 +142,8 @@ module _ (board : Shape) (l : Layout) (pair : Counts) (before after : List Count
   ]
 
 -- letting tables go by their numbers of stones
-module _ (old new : Stored) (c : Counts) (goes : (d : Counts) → table_on new d ≡ kept_from (stones c - 1) old d) where
-  pub let_go-spares : IsSpared old new c
+module _ (old new : Stored) (c : Counts) (goes : (d : Counts) → table_on new d ≡ retained_from (stones c - 1) old d) where
+  pub let_go-spares : ArePruned old new c
   let_go-spares = λ d near.
       let enough : stones c - 1 ≤ stones d = omega arith in
       goes d ∙ cond-true (nat_le (stones c - 1) (stones d)) (table_on old d) None (le-leb _ _ enough)
@@ -156,5 +156,5 @@ module _ (old new : Stored) (c : Counts) (goes : (d : Counts) → table_on new d
       fewer : (a b : ℕ) → b < a → nat_le a b ≡ false
       fewer a b h = grind arith
 
-  pub let_go-keeps : KeepsNear old new c
+  pub let_go-keeps : RetainsNear old new c
   let_go-keeps = record { near = let_go-spares; far = let_go-gone }

@@ -2,13 +2,13 @@
 use Rattle.std.proofs.Common.{◌≡◌, ℕ, Bool, true, false, List, Option, None, Some, Result, Ok, Err, refl, sym, ap, subst, ◌∙◌}
 use Rattle.std.specs.Prelude.{◌-◌, option_map, slice_index, if◌then◌else◌}
 use Rattle.morris_board.specs.Boards.{Shape}
-use Rattle.morris_index.specs.Pairs.{Counts, pair_made}
+use Rattle.morris_index.specs.Pairs.{Counts, make_pair}
 use Rattle.morris_index.specs.declared.faults.PairFault.{PairFault}
 use Rattle.morris_index.specs.declared.faults.PairFault.TheVariants as pair
 use Rattle.morris_workers.specs.Ranges.{range_fault}
 use Rattle.morris_workers.specs.declared.fault.SolveFault.{SolveFault}
 use Rattle.morris_workers.specs.declared.fault.SolveFault.TheVariants as solve
-use Rattle.morris_jobs.specs.Answering.{OnOrder, OnRead, OnTeam}
+use Rattle.morris_jobs.specs.Answering.{OnBuildArgs, OnRead, OnParallelism}
 use Rattle.morris_jobs.specs.Faults.{is_write, solve_fault}
 use Rattle.morris_jobs.specs.PairText.{is_pair_text, pair_read, read_pair_of}
 use Rattle.morris_jobs.specs.declared.fault.Fault.{Fault}
@@ -19,15 +19,15 @@ module _ {T : Type 0} {n : ℕ} (board : Shape) (points : board.points ≡ n) (t
   answers_read here =
       subst (λ found. OnRead (λ refused. refused) found r untouched answers) (read ∙ ap (λ m. read_pair_of m text) (sym points)) here
 
-  pub answers_order : (workers blocks : ℕ) → range_fault workers blocks ≡ None → answers pair → OnOrder board text workers blocks r untouched answers
+  pub answers_order : (workers blocks : ℕ) → range_fault workers blocks ≡ None → answers pair → OnBuildArgs board text workers blocks r untouched answers
   answers_order workers blocks fits here =
-      subst (λ found. OnRead (λ refused. refused) found r untouched (λ c. OnTeam (range_fault workers blocks) r untouched (answers c)))
-      (read ∙ ap (λ m. read_pair_of m text) (sym points)) (subst (λ wrong. OnTeam wrong r untouched (answers pair)) (sym fits) here)
+      subst (λ found. OnRead (λ refused. refused) found r untouched (λ c. OnParallelism (range_fault workers blocks) r untouched (answers c)))
+      (read ∙ ap (λ m. read_pair_of m text) (sym points)) (subst (λ wrong. OnParallelism wrong r untouched (answers pair)) (sym fits) here)
 
 -- what is so of each refusal of a text that names no pair, and of a team that there may not be
 module _ (P : Fault → Type 0) where
   pub of_unread : P fault.Counts → P fault.Crowded → P fault.PairText → (n : ℕ) (text : List ℕ) (f : Fault) → Err f ≡ read_pair_of n text → P f
-  of_unread counts crowded unnamed n text f e = by_test (is_pair_text text) (pair_made n (slice_index text 0 - 48) (slice_index text 2 - 48)) e
+  of_unread counts crowded unnamed n text f e = by_test (is_pair_text text) (make_pair n (slice_index text 0 - 48) (slice_index text 2 - 48)) e
     where
       by_test : (b : Bool) (made : Result Counts PairFault) → Err f ≡ (if b then pair_read made else Err fault.PairText) → P f
       by_test true (Ok made) e = cc

@@ -18,16 +18,16 @@ OnBoard (Some board) result untouched answers = answers board
 
 -- the fault that a refusal is told by, or what is answered of what was read
 abbrev pub OnRead : {A E T : Type 0} → (E → Fault) → Result A E → Result T Fault → Type 0 → (A → Type 0) → Type 0
-OnRead told (Err refused) result untouched answers = (result ≡ Err (told refused)) × untouched
-OnRead told (Ok value) result untouched answers = answers value
+OnRead reported (Err refused) result untouched answers = (result ≡ Err (reported refused)) × untouched
+OnRead reported (Ok value) result untouched answers = answers value
 
 -- the fault of so many workers or blocks that there may not be, or what is answered
-abbrev pub OnTeam : {T : Type 0} → Option SolveFault → Result T Fault → Type 0 → Type 0 → Type 0
-OnTeam (Some refused) result untouched answers = (result ≡ Err (solve_fault refused)) × untouched
-OnTeam None result untouched answers = answers
+abbrev pub OnParallelism : {T : Type 0} → Option SolveFault → Result T Fault → Type 0 → Type 0 → Type 0
+OnParallelism (Some refused) result untouched answers = (result ≡ Err (solve_fault refused)) × untouched
+OnParallelism None result untouched answers = answers
 
 -- what is answered on a board of the pair that a text names, by so many workers over so many blocks
-abbrev pub OnOrder : {T : Type 0} → Shape → List ℕ → ℕ → ℕ → Result T Fault → Type 0 → (Counts → Type 0) → Type 0
-OnOrder board text workers blocks result untouched answers =
+abbrev pub OnBuildArgs : {T : Type 0} → Shape → List ℕ → ℕ → ℕ → Result T Fault → Type 0 → (Counts → Type 0) → Type 0
+OnBuildArgs board text workers blocks result untouched answers =
     OnRead (λ refused. refused) (read_pair_of board.points text) result untouched
-    (λ pair. OnTeam (range_fault workers blocks) result untouched (answers pair))
+    (λ pair. OnParallelism (range_fault workers blocks) result untouched (answers pair))

@@ -95,10 +95,10 @@ abbrev pub stones_text : ℕ → ℕ → List ℕ
 stones_text greater lesser = decimal greater ++ (45 ∷ decimal lesser)
 
 -- a text; a number between two texts; or the numbers of stones of a pair between two texts
-abbrev pub said : Words → List ℕ
-said (Plain text) = text.now
-said (Number before number after) = before.now ++ decimal number ++ after.now
-said (Pair before greater lesser after) = before.now ++ stones_text greater lesser ++ after.now
+abbrev pub words_of : Words → List ℕ
+words_of (Plain text) = text.now
+words_of (Number before number after) = before.now ++ decimal number ++ after.now
+words_of (Pair before greater lesser after) = before.now ++ stones_text greater lesser ++ after.now
 
 -- how many bytes stand around the numbers
 abbrev pub length_around : Words → ℕ
@@ -107,74 +107,74 @@ length_around (Number before number after) = length before.now + length after.no
 length_around (Pair before greater lesser after) = length before.now + length after.now
 
 -- the number and the text of a flaw
-abbrev pub flaw_told : Flaw → ℕ × List ℕ
-flaw_told flaw.Short = (15, codes "file is too short")
-flaw_told flaw.Magic = (16, codes "not a table file")
-flaw_told flaw.Version = (17, codes "unknown version")
-flaw_told flaw.BoardId = (18, codes "another board")
-flaw_told flaw.Counts = (4, codes "bad counts")
-flaw_told flaw.Crowded = (5, codes "more stones than points")
-flaw_told flaw.Count = (19, codes "wrong number of entries")
-flaw_told flaw.Digest = (20, codes "digest is wrong")
-flaw_told flaw.Trailing = (21, codes "bytes after the table")
-flaw_told flaw.Read = (22, codes "reading failed")
-flaw_told (flaw.Needs greater lesser) = (13, codes "needs " ++ stones_text greater lesser)
-flaw_told (flaw.Differs index) = (14, codes "entry " ++ decimal index ++ codes " differs")
+abbrev pub flaw_description : Flaw → ℕ × List ℕ
+flaw_description flaw.Short = (15, codes "file is too short")
+flaw_description flaw.Magic = (16, codes "not a table file")
+flaw_description flaw.Version = (17, codes "unknown version")
+flaw_description flaw.BoardId = (18, codes "another board")
+flaw_description flaw.Counts = (4, codes "bad counts")
+flaw_description flaw.Crowded = (5, codes "more stones than points")
+flaw_description flaw.Count = (19, codes "wrong number of entries")
+flaw_description flaw.Digest = (20, codes "digest is wrong")
+flaw_description flaw.Trailing = (21, codes "bytes after the table")
+flaw_description flaw.Read = (22, codes "reading failed")
+flaw_description (flaw.Needs greater lesser) = (13, codes "needs " ++ stones_text greater lesser)
+flaw_description (flaw.Differs index) = (14, codes "entry " ++ decimal index ++ codes " differs")
 
 -- how many lines have no answer, in words
 abbrev pub unanswered_text : ℕ → List ℕ
 unanswered_text count = if count == 1 then codes "1 line has no answer" else decimal count ++ codes " lines have no answer"
 
 -- the number of a fault, and its text without the file in which it was met
-abbrev pub fault_told : Fault → ℕ × List ℕ
-fault_told fault.Length = (1, codes "text is not one character per point")
-fault_told (fault.Character place) = (2, codes "bad character at " ++ decimal place)
-fault_told fault.Stones = (3, codes "bad number of stones")
-fault_told fault.Counts = flaw_told flaw.Counts
-fault_told fault.Crowded = flaw_told flaw.Crowded
-fault_told fault.Blocks = (6, codes "blocks must be 1 to 1024")
-fault_told (fault.Missing number) = (8, codes "block " ++ decimal number ++ codes " is not complete")
-fault_told fault.TooDeep = (10, codes "depth is too great")
-fault_told fault.Workers = (11, codes "workers must be 1 to 64")
-fault_told fault.Memory = (12, codes "out of memory")
-fault_told (fault.Needs greater lesser) = flaw_told (flaw.Needs greater lesser)
-fault_told (fault.Differs index) = flaw_told (flaw.Differs index)
-fault_told fault.Short = flaw_told flaw.Short
-fault_told fault.Magic = flaw_told flaw.Magic
-fault_told fault.Version = flaw_told flaw.Version
-fault_told fault.BoardId = flaw_told flaw.BoardId
-fault_told fault.Count = flaw_told flaw.Count
-fault_told fault.Digest = flaw_told flaw.Digest
-fault_told fault.Trailing = flaw_told flaw.Trailing
-fault_told fault.Read = flaw_told flaw.Read
-fault_told (fault.Write sent) = (23, codes "writing failed after " ++ decimal sent ++ codes " bytes")
-fault_told fault.Board = (25, codes "no such board")
-fault_told fault.PairText = (26, codes "not a pair")
-fault_told fault.ValueText = (39, codes "not a value: draw, won, lost, won in D, lost in D or deepest")
-fault_told fault.TooMany = (27, codes "more than 64 tables")
-fault_told fault.Folder = (28, codes "folder can't be made")
-fault_told (fault.Unwritten greater lesser) = (29, codes "file of " ++ stones_text greater lesser ++ codes " can't be written")
-fault_told (fault.Unopened greater lesser) = (30, codes "file of " ++ stones_text greater lesser ++ codes " can't be opened")
-fault_told (fault.OtherPair greater lesser) = (31, codes "file of " ++ stones_text greater lesser ++ codes " has the table of another pair")
-fault_told fault.NoFiles = (32, codes "no table files")
-fault_told (fault.Unanswered count) = (33, unanswered_text count)
-fault_told fault.Digests = (34, codes "file of digests can't be written")
-fault_told fault.Busy = (35, codes "another build is at work in this folder")
-fault_told fault.NoFolder = (36, codes "no such folder")
-fault_told fault.Disagree = (37, codes "the files of this position and its moves disagree")
-fault_told fault.Unlocked = (38, codes "folder can't be locked")
-fault_told fault.Terminal = (40, codes "a table isn't for a terminal: add --into FOLDER or > FILE")
-fault_told (fault.InFile greater lesser f) = flaw_told f
+abbrev pub fault_description : Fault → ℕ × List ℕ
+fault_description fault.Length = (1, codes "text is not one character per point")
+fault_description (fault.Character place) = (2, codes "bad character at " ++ decimal place)
+fault_description fault.Stones = (3, codes "bad number of stones")
+fault_description fault.Counts = flaw_description flaw.Counts
+fault_description fault.Crowded = flaw_description flaw.Crowded
+fault_description fault.Blocks = (6, codes "blocks must be 1 to 1024")
+fault_description (fault.Missing number) = (8, codes "block " ++ decimal number ++ codes " is not complete")
+fault_description fault.TooDeep = (10, codes "depth is too great")
+fault_description fault.Workers = (11, codes "workers must be 1 to 64")
+fault_description fault.Memory = (12, codes "out of memory")
+fault_description (fault.Needs greater lesser) = flaw_description (flaw.Needs greater lesser)
+fault_description (fault.Differs index) = flaw_description (flaw.Differs index)
+fault_description fault.Short = flaw_description flaw.Short
+fault_description fault.Magic = flaw_description flaw.Magic
+fault_description fault.Version = flaw_description flaw.Version
+fault_description fault.BoardId = flaw_description flaw.BoardId
+fault_description fault.Count = flaw_description flaw.Count
+fault_description fault.Digest = flaw_description flaw.Digest
+fault_description fault.Trailing = flaw_description flaw.Trailing
+fault_description fault.Read = flaw_description flaw.Read
+fault_description (fault.Write sent) = (23, codes "writing failed after " ++ decimal sent ++ codes " bytes")
+fault_description fault.Board = (25, codes "no such board")
+fault_description fault.PairText = (26, codes "not a pair")
+fault_description fault.ValueText = (39, codes "not a value: draw, won, lost, won in D, lost in D or deepest")
+fault_description fault.TooMany = (27, codes "more than 64 tables")
+fault_description fault.Folder = (28, codes "folder can't be made")
+fault_description (fault.Unwritten greater lesser) = (29, codes "file of " ++ stones_text greater lesser ++ codes " can't be written")
+fault_description (fault.Unopened greater lesser) = (30, codes "file of " ++ stones_text greater lesser ++ codes " can't be opened")
+fault_description (fault.OtherPair greater lesser) = (31, codes "file of " ++ stones_text greater lesser ++ codes " has the table of another pair")
+fault_description fault.NoFiles = (32, codes "no table files")
+fault_description (fault.Unanswered count) = (33, unanswered_text count)
+fault_description fault.Digests = (34, codes "file of digests can't be written")
+fault_description fault.Busy = (35, codes "another build is at work in this folder")
+fault_description fault.NoFolder = (36, codes "no such folder")
+fault_description fault.Disagree = (37, codes "the files of this position and its moves disagree")
+fault_description fault.Unlocked = (38, codes "folder can't be locked")
+fault_description fault.Terminal = (40, codes "a table isn't for a terminal: add --into FOLDER or > FILE")
+fault_description (fault.InFile greater lesser f) = flaw_description f
 
 abbrev pub fault_number : Fault → ℕ
-fault_number f = (fault_told f).0
+fault_number f = (fault_description f).0
 
 abbrev pub own_text : Fault → List ℕ
-own_text f = (fault_told f).1
+own_text f = (fault_description f).1
 
 -- the text of a fault; where it was met in a file, the text says in which one
 abbrev pub fault_text : Fault → List ℕ
-fault_text (fault.InFile greater lesser f) = (flaw_told f).1 ++ codes ", in the file of " ++ stones_text greater lesser
+fault_text (fault.InFile greater lesser f) = (flaw_description f).1 ++ codes ", in the file of " ++ stones_text greater lesser
 fault_text f = own_text f
 
 -- the flaw that a fault says a table file has, where it doesn't say which file

@@ -4,7 +4,7 @@ pub mod PairText
 pub mod Progress
 pub mod ProgressLaws
 pub mod Sizes
-pub mod Orders
+pub mod Building
 pub mod Answering
 pub mod Inputs
 pub mod Bundles

@@ -1,7 +1,7 @@
 -- The text of a pair on the command line.
 use Rattle.std.specs.Prelude.{ℕ, ◌-◌, Bool, ◌&&◌, nat_eq, List, length, slice_index, Result, Ok, Err, if◌then◌else◌}
 use Rattle.std.specs.Char.{is_ascii_digit}
-use Rattle.morris_index.specs.Pairs.{Counts, pair_made}
+use Rattle.morris_index.specs.Pairs.{Counts, make_pair}
 use Rattle.morris_index.specs.declared.faults.PairFault.{PairFault}
 use Rattle.morris_jobs.specs.declared.fault.Fault.{Fault}
 use Rattle.morris_jobs.specs.declared.fault.Fault.TheVariants as fault
@@ -21,4 +21,4 @@ pair_read (Err refused) = Err (pair_fault refused)
 -- its two digits make (`0` is 48).
 abbrev pub read_pair_of : ℕ → List ℕ → Result Counts Fault
 read_pair_of n text =
-    if is_pair_text text then pair_read (pair_made n (slice_index text 0 - 48) (slice_index text 2 - 48)) else Err fault.PairText
+    if is_pair_text text then pair_read (make_pair n (slice_index text 0 - 48) (slice_index text 2 - 48)) else Err fault.PairText

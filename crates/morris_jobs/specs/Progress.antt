@@ -5,17 +5,17 @@ use Rattle.std.specs.Fmt.{decimal}
 use Rattle.morris_board.specs.Streams.{CountsFailure}
 use Rattle.morris_index.specs.Pairs.{Counts, counts}
 use Rattle.morris_board.specs.Printers.{WentOut}
-use Rattle.morris_jobs.specs.declared.progress.News.{News}
-use Rattle.morris_jobs.specs.declared.progress.News.TheVariants as news
-use Rattle.morris_jobs.specs.declared.progress.SoFar.{SoFar}
-use Rattle.morris_jobs.specs.declared.progress.Progress.{Progress}
+use Rattle.morris_jobs.specs.declared.progress_printer.ProgressEvent.{ProgressEvent}
+use Rattle.morris_jobs.specs.declared.progress_printer.ProgressEvent.TheVariants as event
+use Rattle.morris_jobs.specs.declared.progress_printer.SoFar.{SoFar}
+use Rattle.morris_jobs.specs.declared.progress_printer.ProgressPrinter.{ProgressPrinter}
 use Rattle.morris_jobs.specs.Faults.{ReportsText, stones_text}
 
 -- ---- the lines
 
 -- a label and a number
-abbrev pub labelled : List ℕ → ℕ → List ℕ
-labelled label number = label ++ decimal number
+abbrev pub with_label : List ℕ → ℕ → List ℕ
+with_label label number = label ++ decimal number
 
 -- how many in a hundred are done, rounded down; all where there are none
 abbrev pub percent_of : ℕ → ℕ → ℕ
@@ -24,122 +24,122 @@ percent_of done whole = if nat_lt done whole then 100 * done / whole else 100
 -- `, about S s left`, and from two minutes up `, about M min left`, rounded; nothing at 0
 abbrev pub left_text : ℕ → List ℕ
 left_text seconds =
-    if nat_eq seconds 0 then [] else (if nat_lt seconds 120 then labelled (codes ", about ") seconds ++ codes " s left"
-    else labelled (codes ", about ") (seconds / 60 + seconds % 60 / 30) ++ codes " min left")
+    if nat_eq seconds 0 then [] else (if nat_lt seconds 120 then with_label (codes ", about ") seconds ++ codes " s left"
+    else with_label (codes ", about ") (seconds / 60 + seconds % 60 / 30) ++ codes " min left")
 
 -- `, D of N entries (P %), S s`, where D of the N entries are done, P in a hundred, S seconds after
 -- the start; and how long the rest takes
 abbrev pub so_far_text : SoFar → List ℕ
 so_far_text s =
-    labelled (codes ", ") s.done ++ labelled (codes " of ") s.whole ++ labelled (codes " entries (") (percent_of s.done s.whole) ++ codes " %)"
-    ++ labelled (codes ", ") s.seconds ++ codes " s" ++ left_text s.left
+    with_label (codes ", ") s.done ++ with_label (codes " of ") s.whole ++ with_label (codes " entries (") (percent_of s.done s.whole) ++ codes " %)"
+    ++ with_label (codes ", ") s.seconds ++ codes " s" ++ left_text s.left
 
 -- What is told: how much there is to do, `progress: N entries, about M MB of memory`; the wave of a
 -- pair that begins; how many entries are done in the midst of a pair; the pair that is done;
 -- nothing, in the place of what a terminal shows.
-abbrev pub news_text : News → List ℕ
-news_text (news.Whole entries megabytes) =
-    labelled (codes "progress: ") entries ++ labelled (codes " entries, about ") megabytes ++ codes " MB of memory"
-news_text (news.Wave greater lesser wave so_far) = codes "progress: " ++ stones_text greater lesser ++ labelled (codes " wave ") wave ++ so_far_text so_far
-news_text (news.Part greater lesser so_far) = codes "progress: " ++ stones_text greater lesser ++ so_far_text so_far
-news_text (news.Done greater lesser so_far) = codes "progress: " ++ stones_text greater lesser ++ codes " done" ++ so_far_text so_far
-news_text news.Cleared = []
+abbrev pub event_text : ProgressEvent → List ℕ
+event_text (event.Whole entries megabytes) =
+    with_label (codes "progress: ") entries ++ with_label (codes " entries, about ") megabytes ++ codes " MB of memory"
+event_text (event.Wave greater lesser wave so_far) = codes "progress: " ++ stones_text greater lesser ++ with_label (codes " wave ") wave ++ so_far_text so_far
+event_text (event.Part greater lesser so_far) = codes "progress: " ++ stones_text greater lesser ++ so_far_text so_far
+event_text (event.Done greater lesser so_far) = codes "progress: " ++ stones_text greater lesser ++ codes " done" ++ so_far_text so_far
+event_text event.Cleared = []
 
 -- what a terminal shows until something takes its place
-abbrev pub is_passing : News → Bool
-is_passing (news.Whole entries megabytes) = false
-is_passing (news.Done greater lesser so_far) = false
+abbrev pub is_passing : ProgressEvent → Bool
+is_passing (event.Whole entries megabytes) = false
+is_passing (event.Done greater lesser so_far) = false
 is_passing _ = true
 
 -- As a line: on a terminal in the place of the one at which it is, of which the rest is cleared,
 -- and without a line feed where it is to be replaced itself.
-abbrev pub news_line : Bool → News → List ℕ
-news_line false n = news_text n ++ (10 ∷ [])
-news_line true n = (13 ∷ []) ++ news_text n ++ (27 ∷ codes "[K") ++ (if is_passing n then [] else 10 ∷ [])
+abbrev pub event_line : Bool → ProgressEvent → List ℕ
+event_line false n = event_text n ++ (10 ∷ [])
+event_line true n = (13 ∷ []) ++ event_text n ++ (27 ∷ codes "[K") ++ (if is_passing n then [] else 10 ∷ [])
 
 -- ---- what was told
 
 -- Others follow a line only where no write of it failed, by the number of those that have failed
 -- before and after it.
-abbrev pub GoesOn : ℕ → ℕ → List News → Type 0
+abbrev pub GoesOn : ℕ → ℕ → List ProgressEvent → Type 0
 GoesOn old new [] = ⊤
 GoesOn old new (n ∷ rest) = new ≡ old
 
 module _ {E : Type 0} (contents : E → Option (List ℕ)) (failures : E → ℕ) (rewrites : Bool) where
   -- these lines were written, one after the other and nothing else; where a write failed, the first
   -- bytes of its line, which is the last
-  unfoldable pub Told : E → E → List News → Type 0
-  Told old new [] = new ≡ old
-  Told old new (n ∷ rest) =
-      (midway : E) × ReportsText contents failures old midway (news_line rewrites n) × GoesOn (failures old) (failures midway) rest × Told midway new rest
+  unfoldable pub HasReported : E → E → List ProgressEvent → Type 0
+  HasReported old new [] = new ≡ old
+  HasReported old new (n ∷ rest) =
+      (midway : E) × ReportsText contents failures old midway (event_line rewrites n) × GoesOn (failures old) (failures midway) rest × HasReported midway new rest
 
   -- some lines were told, and at most one write failed
-  pub record Tells (old new : E) : Type 0 where
-    pub lines : List News
-    pub told : Told old new lines
+  pub record Reports (old new : E) : Type 0 where
+    pub lines : List ProgressEvent
+    pub reported : HasReported old new lines
     pub once : failures new ≤ failures old + 1
     pub room : failures old < 2 ^ 64 - 1 → failures new < 2 ^ 64 - 1
 
 -- how much there is to do is the first of some lines, if there are any
-abbrev pub IsWholeFirst : List News → Type 0
+abbrev pub IsWholeFirst : List ProgressEvent → Type 0
 IsWholeFirst [] = ⊤
-IsWholeFirst (news.Whole entries megabytes ∷ rest) = ⊤
+IsWholeFirst (event.Whole entries megabytes ∷ rest) = ⊤
 IsWholeFirst (n ∷ rest) = ⊥
 
 -- such lines were told
-abbrev pub TellsInOrder : {E : Type 0} → (E → Option (List ℕ)) → (E → ℕ) → Bool → E → E → Type 0
-TellsInOrder contents failures rewrites old new = (tells : Tells contents failures rewrites old new) × IsWholeFirst tells.lines
+abbrev pub ReportsInOrder : {E : Type 0} → (E → Option (List ℕ)) → (E → ℕ) → Bool → E → E → Type 0
+ReportsInOrder contents failures rewrites old new = (reports : Reports contents failures rewrites old new) × IsWholeFirst reports.lines
 
 -- ---- who tells
 
 -- by what name the proofs know the borrow of the sink that is told
-abbrev pub lent_of : {R E : Type 0} → Progress R E → GName
+abbrev pub lent_of : {R E : Type 0} → ProgressPrinter R E → GName
 lent_of p = p.errors.ghost_name
 
 -- the sink that is told
-abbrev pub sink_of : {R E : Type 0} → Progress R E → E
+abbrev pub sink_of : {R E : Type 0} → ProgressPrinter R E → E
 sink_of p = p.errors.now
 
 -- whether it is told anything
-abbrev pub tells_of : {R E : Type 0} → Progress R E → Bool
-tells_of p = p.tells
+abbrev pub reports_of : {R E : Type 0} → ProgressPrinter R E → Bool
+reports_of p = p.reports
 
 -- whether the lines go to a terminal, where each takes the place of the last
-abbrev pub rewrites_of : {R E : Type 0} → Progress R E → Bool
+abbrev pub rewrites_of : {R E : Type 0} → ProgressPrinter R E → Bool
 rewrites_of p = p.rewrites
 
 -- whether it is known how much there is to do; how many entries that is, and how many are those of
 -- the pairs that are done
-abbrev pub has_begun_of : {R E : Type 0} → Progress R E → Bool
+abbrev pub has_begun_of : {R E : Type 0} → ProgressPrinter R E → Bool
 has_begun_of p = p.has_begun
 
-abbrev pub whole_of : {R E : Type 0} → Progress R E → ℕ
+abbrev pub whole_of : {R E : Type 0} → ProgressPrinter R E → ℕ
 whole_of p = p.whole
 
-abbrev pub done_of : {R E : Type 0} → Progress R E → ℕ
+abbrev pub done_of : {R E : Type 0} → ProgressPrinter R E → ℕ
 done_of p = p.done
 
 -- the numbers of stones of the pair at work, and how many of its entries are done
-abbrev pub at_work_of : {R E : Type 0} → Progress R E → Counts
+abbrev pub at_work_of : {R E : Type 0} → ProgressPrinter R E → Counts
 at_work_of p = counts p.greater p.lesser
 
-abbrev pub part_of : {R E : Type 0} → Progress R E → ℕ
+abbrev pub part_of : {R E : Type 0} → ProgressPrinter R E → ℕ
 part_of p = p.part
 
 -- who tells, as far as the sink and its lines show
-pub record Telling (E : Type 0) : Type 0 where
+pub record ProgressState (E : Type 0) : Type 0 where
   pub lent : GName
   pub sink : E
-  pub tells : Bool
+  pub reports : Bool
   pub rewrites : Bool
   pub has_begun : Bool
   pub whole : ℕ
 
-abbrev pub telling_of : {R E : Type 0} → Progress R E → Telling E
-telling_of p = record {
+abbrev pub progress_state_of : {R E : Type 0} → ProgressPrinter R E → ProgressState E
+progress_state_of p = record {
   lent = lent_of p;
   sink = sink_of p;
-  tells = tells_of p;
+  reports = reports_of p;
   rewrites = rewrites_of p;
   has_begun = has_begun_of p;
   whole = whole_of p;
@@ -147,54 +147,54 @@ telling_of p = record {
 
 -- The lines of who begins to tell: first how much there is to do, of as many entries as there are;
 -- none before that is known, or where nothing is told any more.
-abbrev pub BeginsWithWhole : Bool → Bool → ℕ → List News → Type 0
-BeginsWithWhole has_begun tells whole [] = has_begun ≡ true → tells ≡ false
-BeginsWithWhole has_begun tells whole (news.Whole entries megabytes ∷ rest) = (has_begun ≡ true) × (entries ≡ whole)
-BeginsWithWhole has_begun tells whole (n ∷ rest) = ⊥
+abbrev pub BeginsWithWhole : Bool → Bool → ℕ → List ProgressEvent → Type 0
+BeginsWithWhole has_begun reports whole [] = has_begun ≡ true → reports ≡ false
+BeginsWithWhole has_begun reports whole (event.Whole entries megabytes ∷ rest) = (has_begun ≡ true) × (entries ≡ whole)
+BeginsWithWhole has_begun reports whole (n ∷ rest) = ⊥
 
 module _ {E : Type 0} (contents : E → Option (List ℕ)) (failures : E → ℕ) where
   -- What telling makes of who tells: of the same sink, which was told some lines, or nothing where
   -- it isn't told anything. Nothing more is told after a write that failed, and nothing before how
   -- much there is to do, which stays what it is once it is known.
-  pub record Continues (old new : Telling E) : Type 0 where
+  pub record Continues (old new : ProgressState E) : Type 0 where
     pub same : new.lent ≡ old.lent
-    pub silent : old.tells ≡ false → (new.tells ≡ false) × (new.sink ≡ old.sink)
+    pub silent : old.reports ≡ false → (new.reports ≡ false) × (new.sink ≡ old.sink)
     pub rewrites : new.rewrites ≡ old.rewrites
-    pub told : Tells contents failures old.rewrites old.sink new.sink
-    pub unfailed : new.tells ≡ true → failures new.sink ≡ failures old.sink
-    pub first : old.has_begun ≡ false → BeginsWithWhole new.has_begun new.tells new.whole told.lines
-    pub kept : old.has_begun ≡ true → (new.has_begun ≡ true) × (new.whole ≡ old.whole)
+    pub reported : Reports contents failures old.rewrites old.sink new.sink
+    pub unfailed : new.reports ≡ true → failures new.sink ≡ failures old.sink
+    pub first : old.has_begun ≡ false → BeginsWithWhole new.has_begun new.reports new.whole reported.lines
+    pub unchanged : old.has_begun ≡ true → (new.has_begun ≡ true) × (new.whole ≡ old.whole)
 
-  abbrev pub Becomes : {R : Type 0} → Progress R E → Progress R E → Type 0
-  Becomes old new = Continues (telling_of old) (telling_of new)
+  abbrev pub Becomes : {R : Type 0} → ProgressPrinter R E → ProgressPrinter R E → Type 0
+  Becomes old new = Continues (progress_state_of old) (progress_state_of new)
 
   -- What telling one of the news makes of who tells: what it was, where it isn't told anything or
   -- it isn't known how much there is to do. Else its line went out, or its first bytes up to the
   -- write that failed, and more is told only where it went out; or nothing more is told where the
   -- sink has no room for a failure more.
-  pub record Speaks (old new : Telling E) (n : News) : Type 0 where
+  pub record Speaks (old new : ProgressState E) (n : ProgressEvent) : Type 0 where
     pub same : new.lent ≡ old.lent
     pub rewrites : new.rewrites ≡ old.rewrites
     pub begun : new.has_begun ≡ old.has_begun
     pub whole : new.whole ≡ old.whole
-    pub silent : old.tells ≡ false → (new.tells ≡ false) × (new.sink ≡ old.sink)
-    pub early : old.has_begun ≡ false → (new.tells ≡ old.tells) × (new.sink ≡ old.sink)
-    pub cramped : old.tells ≡ true → old.has_begun ≡ true → 2 ^ 64 - 3 ≤ failures old.sink → (new.tells ≡ false) × (new.sink ≡ old.sink)
-    pub said : old.tells ≡ true → old.has_begun ≡ true → failures old.sink < 2 ^ 64 - 3
-        → (sent : Result (Unit {0}) ℕ) × WentOut (contents old.sink) (contents new.sink) (news_line old.rewrites n) sent
-        × CountsFailure (failures old.sink) (failures new.sink) sent × (new.tells ≡ is_ok sent)
+    pub silent : old.reports ≡ false → (new.reports ≡ false) × (new.sink ≡ old.sink)
+    pub early : old.has_begun ≡ false → (new.reports ≡ old.reports) × (new.sink ≡ old.sink)
+    pub cramped : old.reports ≡ true → old.has_begun ≡ true → 2 ^ 64 - 3 ≤ failures old.sink → (new.reports ≡ false) × (new.sink ≡ old.sink)
+    pub said : old.reports ≡ true → old.has_begun ≡ true → failures old.sink < 2 ^ 64 - 3
+        → (sent : Result (Unit {0}) ℕ) × WentOut (contents old.sink) (contents new.sink) (event_line old.rewrites n) sent
+        × CountsFailure (failures old.sink) (failures new.sink) sent × (new.reports ≡ is_ok sent)
 
 -- Whoever tells anything writes this line, or its first bytes up to the write that failed, where
 -- the sink has room for a failure more and for one after it.
-abbrev pub TellsLine : {R E : Type 0} → (E → Option (List ℕ)) → (E → ℕ) → Progress R E → Progress R E → News → Type 0
-TellsLine contents failures old new n =
-    tells_of old ≡ true → failures (sink_of old) < 2 ^ 64 - 3 → ReportsText contents failures (sink_of old) (sink_of new) (news_line (rewrites_of old) n)
+abbrev pub ReportsLine : {R E : Type 0} → (E → Option (List ℕ)) → (E → ℕ) → ProgressPrinter R E → ProgressPrinter R E → ProgressEvent → Type 0
+ReportsLine contents failures old new n =
+    reports_of old ≡ true → failures (sink_of old) < 2 ^ 64 - 3 → ReportsText contents failures (sink_of old) (sink_of new) (event_line (rewrites_of old) n)
 
 -- that line, or none
-abbrev pub MayTell : {R E : Type 0} → (E → Option (List ℕ)) → (E → ℕ) → Progress R E → Progress R E → News → Type 0
-MayTell contents failures old new n = (sink_of new ≡ sink_of old) ⊎ TellsLine contents failures old new n
+abbrev pub MayReport : {R E : Type 0} → (E → Option (List ℕ)) → (E → ℕ) → ProgressPrinter R E → ProgressPrinter R E → ProgressEvent → Type 0
+MayReport contents failures old new n = (sink_of new ≡ sink_of old) ⊎ ReportsLine contents failures old new n
 
 -- how far it is where n more entries are done, as far as 64 bits hold the number
-abbrev pub CountsMore : {R E : Type 0} → Progress R E → ℕ → SoFar → Type 0
+abbrev pub CountsMore : {R E : Type 0} → ProgressPrinter R E → ℕ → SoFar → Type 0
 CountsMore old n so_far =
     done_of old + n < 2 ^ 64 → (so_far.done ≡ done_of old + n) × (so_far.whole ≡ max (whole_of old) (done_of old + n))

@@ -55,7 +55,7 @@ impl Estimate {
 
     /// So many entries of the pair at work are verified, so many milliseconds after the start.
     /// Where it is none, nothing is known of them: it is also told while a pair is built.
-    pub(crate) fn verified(&mut self, entries: u64, passed: u64) {
+    pub(crate) fn note_verified(&mut self, entries: u64, passed: u64) {
         if entries > 0 {
             self.weight = VERIFIED;
             self.part(entries, passed);
@@ -78,7 +78,7 @@ impl Estimate {
     }
 
     /// About how many seconds are left; 0 where that isn't known.
-    pub(crate) fn left(&self, passed: u64) -> u64 {
+    pub(crate) fn seconds_left(&self, passed: u64) -> u64 {
         self.expected.saturating_sub(passed) / 1000
     }
 

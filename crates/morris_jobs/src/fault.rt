@@ -1,6 +1,6 @@
 //! What a command can be refused for.
 ghost use Rattle.std.specs.Prelude.{◌≡◌, ◌≤◌, None};
-ghost use Rattle.morris_jobs.specs.Faults.{build_fault, count_fault, fault_number, flaw_in, in_file, length_around, needs_fault, own_text, pair_fault, probe_fault, said, solve_fault, text_fault, verify_fault};
+ghost use Rattle.morris_jobs.specs.Faults.{build_fault, count_fault, fault_number, flaw_in, in_file, length_around, needs_fault, own_text, pair_fault, probe_fault, words_of, solve_fault, text_fault, verify_fault};
 
 use crate::flaw::Flaw;
 use crate::wording::Words;
@@ -115,17 +115,17 @@ impl Fault {
     pub fn number(&self) -> u8
         ensures { result ≡ fault_number self.now }
     {
-        self.told().0
+        self.number_and_text().0
     }
 
     /// The number of the fault, and its words without the file in which it was met.
-    pub fn told(&self) -> (u8, Words)
+    pub fn number_and_text(&self) -> (u8, Words)
         ensures number { result.0 ≡ fault_number self.now }
-        ensures text { said result.1 ≡ own_text self.now }
+        ensures text { words_of result.1 ≡ own_text self.now }
         ensures short { length_around result.1 ≤ 64 }
     {
         match self.flaw() {
-            Some(flaw) => flaw.told(),
+            Some(flaw) => flaw.number_and_text(),
             None => self.own(),
         }
     }
@@ -134,7 +134,7 @@ impl Fault {
     fn own(&self) -> (u8, Words)
         requires { flaw_in self.now ≡ None }
         ensures number { result.0 ≡ fault_number self.now }
-        ensures text { said result.1 ≡ own_text self.now }
+        ensures text { words_of result.1 ≡ own_text self.now }
         ensures short { length_around result.1 ≤ 64 }
     {
         match *self {
@@ -170,7 +170,7 @@ impl Fault {
             ),
             Fault::Unlocked => (38, Words::Plain("folder can't be locked")),
             Fault::Terminal => (40, Words::Plain(NO_TERMINAL)),
-            Fault::InFile(_, _, flaw) => flaw.told(),
+            Fault::InFile(_, _, flaw) => flaw.number_and_text(),
             _ => unreachable!(),
         }
     }
@@ -226,7 +226,7 @@ impl fmt::Display for Fault {
     ghost output = { λ fault. Some (fault_text fault) };
 
     fn fmt<W: fmt::Write>(&self, f: &mut fmt::Formatter<W>) -> fmt::Result {
-        let (_, words) = self.told();
+        let (_, words) = self.number_and_text();
         match *self {
             Fault::InFile(greater, lesser, _) => {
                 write!(f, "{words}, in the file of {greater}-{lesser}")

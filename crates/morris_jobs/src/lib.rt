@@ -4,12 +4,13 @@
 #![tactic(auto)]
 
 pub mod boards;
+pub mod building;
+pub mod context;
 pub mod counts;
 mod estimate;
 pub mod fault;
 pub mod flaw;
 mod memory;
-pub mod orders;
 pub mod pairs;
 pub mod print;
 pub mod print_counts;
@@ -17,7 +18,6 @@ pub mod print_fault;
 mod print_progress;
 pub mod print_verified;
 pub mod progress;
+pub mod progress_printer;
 pub mod size;
-pub mod team;
-pub mod teller;
 pub mod wording;

@@ -7,7 +7,7 @@
 //! one wave, are estimates: they are counts of the usual board.
 ghost use Rattle.std.specs.Prelude.{◌^◌, ◌<◌, ◌≤◌};
 
-use crate::team::Team;
+use crate::context::Parallelism;
 use morris_board::board::Geometry;
 use morris_index::binomials::binomial;
 use morris_index::pair::Pair;
@@ -90,10 +90,10 @@ pub(crate) fn bytes_of_making<B: Geometry>(
     pair: Pair<B>,
     layout: Layout,
     entries: u64,
-    team: Option<Team>,
+    parallelism: Option<Parallelism>,
 ) -> u64 {
     let due = entries.saturating_mul(due_share(pair)) / WHOLE;
-    let Some(team) = team else {
+    let Some(parallelism) = parallelism else {
         // A sweep keeps the numbers of all decided entries, and all that it keeps until the table
         // is made. There are some five of them for two that come due by captures.
         let decided = (due.saturating_mul(5) / 2).min(entries);
@@ -109,9 +109,9 @@ pub(crate) fn bytes_of_making<B: Geometry>(
     // Blocks are let go as their codes are put into the table, so both are never there as a whole,
     // unless the lists of blocks are short. Nothing is listed any more then.
     let solving = listed
-        .max(bytes_kept(entries, team.blocks as u64))
-        .saturating_add(SOURCE * (team.blocks * team.blocks) as u64)
-        .saturating_add(bytes_of_workers(pair, entries, team));
+        .max(bytes_retained(entries, parallelism.blocks as u64))
+        .saturating_add(SOURCE * (parallelism.blocks * parallelism.blocks) as u64)
+        .saturating_add(bytes_of_workers(pair, entries, parallelism));
     if layout == Layout::Full || !is_by_rows(pair) {
         return solving;
     }
@@ -124,7 +124,7 @@ pub(crate) fn bytes_of_making<B: Geometry>(
 /// About how many bytes of the blocks' lists the C library keeps while their codes are put into the
 /// table. A block has for each entry a code of one byte, a counter of one byte, and one byte more
 /// of room; as measured, most of that room is in use by what was kept before.
-fn bytes_kept(entries: u64, blocks: u64) -> u64
+fn bytes_retained(entries: u64, blocks: u64) -> u64
     requires { 0 < blocks }
 {
     if entries / blocks >= GIVEN_BACK {
@@ -143,9 +143,9 @@ fn bytes_of_rows<B: Geometry>(pair: Pair<B>) -> u64 {
 
 /// About how many bytes the workers hold: what each of them has in any case, and the fresh entries
 /// of the block at which it is. No two are at one block.
-fn bytes_of_workers<B: Geometry>(pair: Pair<B>, entries: u64, team: Team) -> u64 {
+fn bytes_of_workers<B: Geometry>(pair: Pair<B>, entries: u64, parallelism: Parallelism) -> u64 {
     let closing = closing_share(pair.greater(), pair.lesser());
-    let block = entries / team.blocks as u64;
+    let block = entries / parallelism.blocks as u64;
     // Where a capture leaves two stones, all entries with one are fresh at once, and in some blocks
     // there are twice as many as on average. Else they are fresh at many waves, and some three in
     // five at most at one of them.
@@ -157,7 +157,7 @@ fn bytes_of_workers<B: Geometry>(pair: Pair<B>, entries: u64, team: Team) -> u64
     let fresh = (block.saturating_mul(share) / WHOLE).min(block);
     WORKER
         .saturating_add(fresh.saturating_mul(WIDE))
-        .saturating_mul(team.workers.min(team.blocks) as u64)
+        .saturating_mul(parallelism.workers.min(parallelism.blocks) as u64)
 }
 
 /// How many bytes an entry of so many takes in a list.

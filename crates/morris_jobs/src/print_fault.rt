@@ -2,7 +2,7 @@
 #![tactic(auto, using(morris_board::proofs::PrinterLaws::takes_laws))]
 
 ghost use Rattle.std.specs.Prelude.{◌≡◌, ◌≤◌, ◌^◌, length};
-ghost use Rattle.morris_jobs.specs.Faults.{fault_text, fault_words, own_text, said};
+ghost use Rattle.morris_jobs.specs.Faults.{fault_text, fault_words, own_text, words_of};
 ghost use Rattle.morris_board.specs.Printers.{Takes};
 
 use crate::fault::Fault;
@@ -31,7 +31,7 @@ pub fn put_fault<S: Sink>(out: &mut Printer<'_, S>, fault: Fault)
     ensures takes { Takes S.contents S.failures out.old out.new (fault_words fault) }
     ensures few { length (fault_words fault) ≤ 2 ^ 9 }
 {
-    let (number, words) = fault.told();
+    let (number, words) = fault.number_and_text();
     put_count(out, "fault ", u64::from(number));
     out.put(": ");
     put_text(out, fault, words);
@@ -39,7 +39,7 @@ pub fn put_fault<S: Sink>(out: &mut Printer<'_, S>, fault: Fault)
 
 /// The text of a fault that has these words: they, and in which file it was met, where it says so.
 fn put_text<S: Sink>(out: &mut Printer<'_, S>, fault: Fault, words: Words)
-    requires own { said words ≡ own_text fault }
+    requires own { words_of words ≡ own_text fault }
     ensures { Takes S.contents S.failures out.old out.new (fault_text fault) }
 {
     match fault {
@@ -54,7 +54,7 @@ fn put_text<S: Sink>(out: &mut Printer<'_, S>, fault: Fault, words: Words)
 
 /// Words with their number or their pair.
 fn put_words<S: Sink>(out: &mut Printer<'_, S>, words: Words)
-    ensures { Takes S.contents S.failures out.old out.new (said words) }
+    ensures { Takes S.contents S.failures out.old out.new (words_of words) }
 {
     match words {
         Words::Plain(text) => out.put(text),

@@ -1,10 +1,10 @@
 //! What is printed of how far a command is.
 ghost use Rattle.std.specs.Prelude.{◌≡◌};
-ghost use Rattle.morris_jobs.specs.Progress.{left_text, news_text, percent_of, so_far_text};
+ghost use Rattle.morris_jobs.specs.Progress.{left_text, event_text, percent_of, so_far_text};
 ghost use Rattle.morris_board.specs.Printers.{Takes};
 
 use crate::pairs::put_stones;
-use crate::progress::{Line, News, SoFar};
+use crate::progress_printer::{Line, ProgressEvent, SoFar};
 use morris_board::streams::Sink;
 use morris_board::streams::printed::Printed;
 use morris_board::streams::printer::Printer;
@@ -52,16 +52,16 @@ fn put_so_far<S: Sink>(out: &mut Printer<'_, S>, so_far: SoFar)
 }
 
 /// What is told, without the end of its line.
-fn put_news<S: Sink>(out: &mut Printer<'_, S>, news: News)
-    ensures { Takes S.contents S.failures out.old out.new (news_text news) }
+fn put_event<S: Sink>(out: &mut Printer<'_, S>, event: ProgressEvent)
+    ensures { Takes S.contents S.failures out.old out.new (event_text event) }
 {
-    match news {
-        News::Whole { entries, megabytes } => {
+    match event {
+        ProgressEvent::Whole { entries, megabytes } => {
             put_count(out, "progress: ", entries);
             put_count(out, " entries, about ", megabytes);
             out.put(" MB of memory");
         }
-        News::Wave {
+        ProgressEvent::Wave {
             greater,
             lesser,
             wave,
@@ -72,7 +72,7 @@ fn put_news<S: Sink>(out: &mut Printer<'_, S>, news: News)
             put_count(out, " wave ", u64::from(wave));
             put_so_far(out, so_far);
         }
-        News::Part {
+        ProgressEvent::Part {
             greater,
             lesser,
             so_far,
@@ -81,7 +81,7 @@ fn put_news<S: Sink>(out: &mut Printer<'_, S>, news: News)
             put_stones(out, greater, lesser);
             put_so_far(out, so_far);
         }
-        News::Done {
+        ProgressEvent::Done {
             greater,
             lesser,
             so_far,
@@ -91,28 +91,28 @@ fn put_news<S: Sink>(out: &mut Printer<'_, S>, news: News)
             out.put(" done");
             put_so_far(out, so_far);
         }
-        News::Cleared => {}
+        ProgressEvent::Cleared => {}
     }
 }
 
 /// The line of one of the news.
 impl Printed for Line {
-    ghost use Rattle.morris_jobs.specs.Progress.{news_line};
+    ghost use Rattle.morris_jobs.specs.Progress.{event_line};
 
-    ghost bytes = { λ line. news_line line.rewrites line.news };
+    ghost bytes = { λ line. event_line line.rewrites line.event };
 
-    #[tactic(auto, using(crate::proofs::LengthLaws::news_line_few))]
+    #[tactic(auto, using(crate::proofs::LengthLaws::event_line_few))]
     fn put_into<S: Sink>(&self, out: &mut Printer<'_, S>) {
-        let Line { news, rewrites } = *self;
+        let Line { event, rewrites } = *self;
         if !rewrites {
-            put_news(out, news);
+            put_event(out, event);
             out.put("\n");
             return;
         }
         out.put("\r");
-        put_news(out, news);
+        put_event(out, event);
         out.put("\x1b[K");
-        if news.is_passing() {
+        if event.is_passing() {
             return;
         }
         out.put("\n");

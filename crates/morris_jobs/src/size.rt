@@ -2,9 +2,9 @@
 ghost use Rattle.std.specs.Prelude.{◌≡◌, ◌+◌, ◌^◌, ◌<◌};
 ghost use Rattle.morris_jobs.specs.Sizes.{entries_below, entries_of};
 
+use crate::context::Parallelism;
 use crate::estimate::{VERIFIED, weight_of};
 use crate::memory::{BASE, CODE, bytes_of_making, bytes_of_table};
-use crate::team::Team;
 use morris_board::board::Geometry;
 use morris_index::class_sizes::class_size;
 use morris_index::pair::Pair;
@@ -12,25 +12,34 @@ use morris_pairs::layout::Layout;
 
 /// How the tables of a pair and of those below it come about, one after the other.
 #[derive(Clone, Copy, Debug, PartialEq, Eq)]
-pub enum Way {
+pub enum Plan {
     /// They are swept, on one thread.
     Swept,
     /// A team builds them; `all` are kept, or only those that a pair to come needs.
-    Built { team: Team, all: bool },
+    Built {
+        parallelism: Parallelism,
+        all: bool,
+    },
     /// They are read from files.
     Read,
     /// A team builds them, of which only those are kept that a pair to come needs; the pair's own,
     /// of so many entries, was read.
-    Verified { team: Team, entries: u64 },
+    Verified {
+        parallelism: Parallelism,
+        entries: u64,
+    },
 }
 
-impl Way {
+impl Plan {
     /// Whether tables are let go once no pair to come needs them.
     fn lets_go(self) -> bool {
         match self {
-            Way::Built { team: _, all } => !all,
-            Way::Verified { .. } => true,
-            Way::Swept | Way::Read => false,
+            Plan::Built {
+                parallelism: _,
+                all,
+            } => !all,
+            Plan::Verified { .. } => true,
+            Plan::Swept | Plan::Read => false,
         }
     }
 }
@@ -109,23 +118,23 @@ impl Size {
     }
 
     /// Of the tables of all pairs below a pair in a layout, its own among them. It takes no memory.
-    pub fn of<B: Geometry>(pair: Pair<B>, layout: Layout, way: Way) -> Size
+    pub fn of<B: Geometry>(pair: Pair<B>, layout: Layout, plan: Plan) -> Size
         // As far as 64 bits hold the number, of which no board needs more than 45.
-        ensures { entries_below B.shape B.POINTS layout pair way < 2 ^ 64
-            → result.entries ≡ entries_below B.shape B.POINTS layout pair way }
+        ensures { entries_below B.shape B.POINTS layout pair plan < 2 ^ 64
+            → result.entries ≡ entries_below B.shape B.POINTS layout pair plan }
     {
         let mut size = Size::NONE;
         let mut near = Near::NONE;
         let mut all = 0u64;
         for below in pair.below() {
-            let entries = count_entries(below, pair, layout, way);
+            let entries = count_entries(below, pair, layout, plan);
             let table = bytes_of_table(below, layout, entries);
             near = near.before(below).with(table);
             all = all.saturating_add(table);
-            let kept = if way.lets_go() { near.bytes() } else { all };
-            let making = bytes_beside(below, layout, entries, way);
-            let weight = weight_in(below, pair, way);
-            size = size.with(entries, weight, kept.saturating_add(making));
+            let retained = if plan.lets_go() { near.bytes() } else { all };
+            let making = bytes_beside(below, layout, entries, plan);
+            let weight = weight_in(below, pair, plan);
+            size = size.with(entries, weight, retained.saturating_add(making));
         }
         size
     }
@@ -162,10 +171,14 @@ impl FolderSize {
 }
 
 /// How many entries the table of a pair has in a layout, where it is one of those below `last`.
-fn count_entries<B: Geometry>(pair: Pair<B>, last: Pair<B>, layout: Layout, way: Way) -> u64
-    ensures { result ≡ entries_of B.shape B.POINTS layout last way pair }
+fn count_entries<B: Geometry>(pair: Pair<B>, last: Pair<B>, layout: Layout, plan: Plan) -> u64
+    ensures { result ≡ entries_of B.shape B.POINTS layout last plan pair }
 {
-    if let Way::Verified { team: _, entries } = way {
+    if let Plan::Verified {
+        parallelism: _,
+        entries,
+    } = plan
+    {
         if pair == last {
             return entries;
         }
@@ -177,25 +190,33 @@ fn count_entries<B: Geometry>(pair: Pair<B>, last: Pair<B>, layout: Layout, way:
 }
 
 /// What an entry of the table of a pair weighs, where it is one of those below `last`.
-fn weight_in<B: Geometry>(pair: Pair<B>, last: Pair<B>, way: Way) -> u64 {
-    match way {
-        Way::Swept | Way::Built { .. } => weight_of(pair),
-        Way::Verified { .. } if pair != last => weight_of(pair),
-        Way::Verified { .. } | Way::Read => VERIFIED,
+fn weight_in<B: Geometry>(pair: Pair<B>, last: Pair<B>, plan: Plan) -> u64 {
+    match plan {
+        Plan::Swept | Plan::Built { .. } => weight_of(pair),
+        Plan::Verified { .. } if pair != last => weight_of(pair),
+        Plan::Verified { .. } | Plan::Read => VERIFIED,
     }
 }
 
 /// About how many bytes it takes to make the table of a pair with so many entries, beside all
 /// tables that are kept, its own among them.
-fn bytes_beside<B: Geometry>(pair: Pair<B>, layout: Layout, entries: u64, way: Way) -> u64 {
-    match way {
-        Way::Swept => bytes_of_making(pair, layout, entries, None),
-        Way::Built { team, .. } => bytes_of_making(pair, layout, entries, Some(team)),
+fn bytes_beside<B: Geometry>(pair: Pair<B>, layout: Layout, entries: u64, plan: Plan) -> u64 {
+    match plan {
+        Plan::Swept => bytes_of_making(pair, layout, entries, None),
+        Plan::Built { parallelism, .. } => bytes_of_making(
+            pair,
+            layout,
+            entries,
+            Some(parallelism),
+        ),
         // The table that was read is there from the start, also while its pair is built beside it.
-        Way::Verified { team, entries: own } => {
-            let making = bytes_of_making(pair, layout, entries, Some(team));
+        Plan::Verified {
+            parallelism,
+            entries: own,
+        } => {
+            let making = bytes_of_making(pair, layout, entries, Some(parallelism));
             making.saturating_add(CODE.saturating_mul(own))
         }
-        Way::Read => 0,
+        Plan::Read => 0,
     }
 }

@@ -12,7 +12,7 @@ use Rattle.morris_index.proofs.ClassCounts.{class_count-few}
 use Rattle.morris_pairs.specs.declared.layout.Layout.{Layout}
 use Rattle.morris_pairs.specs.declared.layout.Layout.TheVariants.{Full, Classes}
 use Rattle.morris_lookup.specs.Representatives.{representatives_of}
-use Rattle.morris_lookup.specs.Numberings.{Serve}
+use Rattle.morris_lookup.specs.Numberings.{AreListsFor}
 use Rattle.morris_lookup.proofs.ListLaws.{representatives-few}
 use Rattle.morris_lookup.proofs.StretchLaws.{few_masks}
 
@@ -40,12 +40,12 @@ own_is_lesser c s of d = elim (halves_of c s of) [
 -- ---- lists that serve
 
 -- they have fewer numbers than there are sets
-pub serve_few : (board : Shape) → board.points ≤ 24 → (l : Layout) (c : Counts) (greater lesser greater_leads lesser_leads : List ℕ) → Serve board l c greater lesser greater_leads lesser_leads
+pub serve_few : (board : Shape) → board.points ≤ 24 → (l : Layout) (c : Counts) (greater lesser greater_class_words lesser_class_words : List ℕ) → AreListsFor board l c greater lesser greater_class_words lesser_class_words
     → (length greater < 2 ^ 32) × (length lesser < 2 ^ 32)
-serve_few board low Full c greater lesser greater_leads lesser_leads h =
+serve_few board low Full c greater lesser greater_class_words lesser_class_words h =
     let none : length greater ≡ 0 = ap length h.0 in
     let nothing : length lesser ≡ 0 = ap length h.1 in
     (omega (arith, none), omega (arith, nothing))
-serve_few board low Classes c greater lesser greater_leads lesser_leads h =
+serve_few board low Classes c greater lesser greater_class_words lesser_class_words h =
     let few : 2 ^ board.points ≤ 2 ^ 24 = few_masks board.points low in
     (omega (arith, ap length h.0, representatives-few board c.greater, few), omega (arith, ap length h.1, representatives-few board c.lesser, few))

@@ -16,7 +16,7 @@ use Rattle.morris_index.proofs.IndexLaws.{map_number-none, rank_outside-same}
 use Rattle.morris_index.proofs.KeepLaws.{rank_lt}
 use Rattle.morris_index.proofs.ClassLaws.{symmetry_first, image_within, image_count, image_twice, symmetry_within, representative_within, representative_count, representative_twice, test_parts, test_from, class_lt, class_alone}
 use Rattle.morris_lookup.specs.Representatives.{representatives_of}
-use Rattle.morris_lookup.specs.Prepared.{lead_of, AreLed, AreLedTo, OthersStay, StayBefore}
+use Rattle.morris_lookup.specs.Prepared.{class_word_of, HaveClassWords, HaveClassWord, OthersStay, StayBefore}
 
 -- ---- the numbers that pass a test, each at how many are below it
 
@@ -127,23 +127,23 @@ rank_alone n s t low s_in t_in counts e =
 -- ---- the images are led, symmetry by symmetry from the last one down
 
 -- Those that one of the last k symmetries leads to r have the least of these; all else is as it was.
-pub record AreLedBy (board : Shape) (count start class r k : ℕ) (words old : List ℕ) : Type 0 where
-  pub led : (set s : ℕ) → set < 2 ^ board.points → s < board.symmetries → board.symmetries ≤ s + k → image_of (board.image s) set ≡ r
+pub record AreCanonicalBy (board : Shape) (count start class r k : ℕ) (words old : List ℕ) : Type 0 where
+  pub canonical_form : (set s : ℕ) → set < 2 ^ board.points → s < board.symmetries → board.symmetries ≤ s + k → image_of (board.image s) set ≡ r
       → ((t : ℕ) → t < s → board.symmetries ≤ t + k → image_of (board.image t) set ≡ r → ⊥)
       → get_or words (start + rank_of (members set)) 0 ≡ 16 * class + s
   pub others : OthersStay board count start r words old
   pub before : StayBefore start words old
 
-pub led_none : (board : Shape) (count start class r : ℕ) (words : List ℕ) → AreLedBy board count start class r 0 words words
-led_none board count start class r words = record {
-  led = λ set s small low late is none. absurd (omega arith);
+pub canonical_none : (board : Shape) (count start class r : ℕ) (words : List ℕ) → AreCanonicalBy board count start class r 0 words words
+canonical_none board count start class r words = record {
+  canonical_form = λ set s small low late is none. absurd (omega arith);
   others = λ set small counted differ. refl;
   before = λ i low. refl;
 }
 
 module _ (board : Shape) (few : board.points ≤ 24) (y : HasSymmetries board) (count start class r : ℕ)
     (small : r < 2 ^ board.points) (counted : count_of r ≡ count) (own : representative_of board r ≡ r) where
-  module _ (k s : ℕ) (last : s + (k + 1) ≡ board.symmetries) (words old : List ℕ) (here : AreLedBy board count start class r k words old)
+  module _ (k s : ℕ) (last : s + (k + 1) ≡ board.symmetries) (words old : List ℕ) (here : AreCanonicalBy board count start class r k words old)
       (room : start + choose board.points count ≤ length words) where
     abbrev at : ℕ
     at = image_of (board.image (inverse_of s)) r
@@ -161,9 +161,9 @@ module _ (board : Shape) (few : board.points ≤ 24) (y : HasSymmetries board) (
     differ_in_rank set set_in set_counted differ = λ e.
         differ (rank_alone board.points set at few set_in at_in (set_counted ∙ sym at_counted) (omega (arith, e)))
 
-    pub led_more : (value : ℕ) → value ≡ 16 * class + s → AreLedBy board count start class r (k + 1) (set words (start + rank_of (members at)) value) old
-    led_more value value_is = record {
-      led = λ x t x_in t_low late is none. elim (cases_eq t s) [
+    pub canonical_more : (value : ℕ) → value ≡ 16 * class + s → AreCanonicalBy board count start class r (k + 1) (set words (start + rank_of (members at)) value) old
+    canonical_more value value_is = record {
+      canonical_form = λ x t x_in t_low late is none. elim (cases_eq t s) [
         | inl e ↦
             let same : x ≡ at = came_from board few y s x r low x_in (ap (λ u. image_of (board.image u) x) (sym e) ∙ is) in
             ap (λ m. get_or (set words (start + rank_of (members at)) value) (start + rank_of (members m)) 0) same
@@ -173,7 +173,7 @@ module _ (board : Shape) (few : board.points ≤ 24) (y : HasSymmetries board) (
             let x_counted : count_of x ≡ count = sym (image_count board few y x x_in t t_low) ∙ ap count_of is ∙ counted in
             let differ : x ≢ at = λ e. none s (omega (arith, last, late, d)) (omega (arith, last)) (ap (image_of (board.image s)) e ∙ there board few y r small s low) in
             get_or-set_other words (start + rank_of (members at)) (start + rank_of (members x)) value 0 (differ_in_rank x x_in x_counted differ)
-            ∙ here.led x t x_in t_low (omega (arith, last, late, d)) is (λ u less far. none u less (omega (arith, far)))
+            ∙ here.canonical_form x t x_in t_low (omega (arith, last, late, d)) is (λ u less far. none u less (omega (arith, far)))
       ];
       others = λ x x_in x_counted other.
           let differ : x ≢ at = λ e. other (ap (representative_of board) e ∙ image_own board few y r small own (inverse_of s) (y.inverse_within s low)) in
@@ -184,42 +184,42 @@ module _ (board : Shape) (few : board.points ≤ 24) (y : HasSymmetries board) (
     }
 
   -- after all symmetries each image has the least one that leads it
-  pub led_all : (words old : List ℕ) → AreLedBy board count start class r board.symmetries words old → AreLedTo board start class r words
+  pub canonical_all : (words old : List ℕ) → AreCanonicalBy board count start class r board.symmetries words old → HaveClassWord board start class r words
   unfolding representative_of
-  led_all words old here = λ set set_in is.
+  canonical_all words old here = λ set set_in is.
       let first = symmetry_first board set y.some in
-      here.led set (symmetry_of board set) set_in first.within (omega arith) is
+      here.canonical_form set (symmetry_of board set) set_in first.within (omega arith) is
       (λ t less late e. omega (arith, first.first t less, e, is))
 
 -- ---- the sets are led, class by class
 
-pub record AreSetsLed (board : Shape) (count start class : ℕ) (words old : List ℕ) : Type 0 where
-  pub led : (set : ℕ) → set < 2 ^ board.points → count_of set ≡ count → class_of board set < class
-      → get_or words (start + rank_of (members set)) 0 ≡ lead_of board set
+pub record AreSetsCanonical (board : Shape) (count start class : ℕ) (words old : List ℕ) : Type 0 where
+  pub canonical_form : (set : ℕ) → set < 2 ^ board.points → count_of set ≡ count → class_of board set < class
+      → get_or words (start + rank_of (members set)) 0 ≡ class_word_of board set
   pub before : StayBefore start words old
 
-pub sets_none : (board : Shape) (count start : ℕ) (words : List ℕ) → AreSetsLed board count start 0 words words
-sets_none board count start words = record { led = λ set small counted low. absurd (omega arith); before = λ i low. refl }
+pub sets_none : (board : Shape) (count start : ℕ) (words : List ℕ) → AreSetsCanonical board count start 0 words words
+sets_none board count start words = record { canonical_form = λ set small counted low. absurd (omega arith); before = λ i low. refl }
 
 module _ (board : Shape) (few : board.points ≤ 24) (y : HasSymmetries board) (count start : ℕ) where
-  pub sets_more : (class r : ℕ) (words next old : List ℕ) → IsListed board few y count class r → AreSetsLed board count start class words old
-      → AreLedTo board start class r next → OthersStay board count start r next words → StayBefore start next words
-      → AreSetsLed board count start (class + 1) next old
-  unfolding lead_of
-  sets_more class r words next old listed here led others before = record {
-    led = λ set small counted low. elim (cases_eq (class_of board set) class) [
-      | inl e ↦ led set small (same_class board few y count set small counted class r listed e) ∙ ap (λ k. 16 * k + symmetry_of board set) (sym e)
-      | inr d ↦ others set small counted (other_class board few y count set small counted class r listed d) ∙ here.led set small counted (omega (arith, low, d))
+  pub sets_more : (class r : ℕ) (words next old : List ℕ) → IsListed board few y count class r → AreSetsCanonical board count start class words old
+      → HaveClassWord board start class r next → OthersStay board count start r next words → StayBefore start next words
+      → AreSetsCanonical board count start (class + 1) next old
+  unfolding class_word_of
+  sets_more class r words next old listed here canonical_form others before = record {
+    canonical_form = λ set small counted low. elim (cases_eq (class_of board set) class) [
+      | inl e ↦ canonical_form set small (same_class board few y count set small counted class r listed e) ∙ ap (λ k. 16 * k + symmetry_of board set) (sym e)
+      | inr d ↦ others set small counted (other_class board few y count set small counted class r listed d) ∙ here.canonical_form set small counted (omega (arith, low, d))
     ];
     before = λ i low. before i low ∙ here.before i low;
   }
 
-  pub sets_all : (words old : List ℕ) → AreSetsLed board count start (length (representatives_of board count)) words old → AreLed board count start words
-  sets_all words old here = λ set small counted. here.led set small counted (class_inside board few y count set small counted)
+  pub sets_all : (words old : List ℕ) → AreSetsCanonical board count start (length (representatives_of board count)) words old → HaveClassWords board count start words
+  sets_all words old here = λ set small counted. here.canonical_form set small counted (class_inside board few y count set small counted)
 
 -- ---- the word of a set
 
 -- the class and the symmetry, from both in one number
-pub lead_parts : (board : Shape) (set : ℕ) → symmetry_of board set < 16 → (lead_of board set / 16 ≡ class_of board set) × (lead_of board set % 16 ≡ symmetry_of board set)
-unfolding lead_of
+pub lead_parts : (board : Shape) (set : ℕ) → symmetry_of board set < 16 → (class_word_of board set / 16 ≡ class_of board set) × (class_word_of board set % 16 ≡ symmetry_of board set)
+unfolding class_word_of
 lead_parts board set low = (omega (arith, low), omega (arith, low))

@@ -139,9 +139,9 @@ module _ (f : ℕ → Bool) (a n : ℕ) where
   join_at : between f 0 (a + n) ≡ between f 0 a ++ between f a n
   join_at = between-join f 0 a n ∙ ap (λ k. between f 0 a ++ between f k n) (zero-add a)
 
-  pub listed-stretch : (start mid end : ℕ) (words mids old : List ℕ) → length words ≡ length mids → AreListed (between f 0 a) start mid mids old
+  pub listed-chunk : (start mid end : ℕ) (words mids old : List ℕ) → length words ≡ length mids → AreListed (between f 0 a) start mid mids old
       → AreListed (between f a n) mid end words mids → AreListed (between f 0 (a + n)) start end words old
-  listed-stretch start mid end words mids old same first then =
+  listed-chunk start mid end words mids old same first then =
       subst (λ xs. AreListed xs start end words old) (sym join_at) (listed-join (between f 0 a) (between f a n) start mid end words mids old same first then)
 
 -- a list that stands at the beginning of words, up to where it ends

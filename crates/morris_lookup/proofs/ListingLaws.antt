@@ -2,7 +2,7 @@
 use Rattle.std.proofs.Common.{◌≡◌, ℕ, List, [], ◌∷◌, ◌++◌, Result, Ok, Err, refl, sym, ap, ap₂, ◌∙◌, append_assoc}
 use Rattle.morris_board.specs.Boards.{Shape}
 use Rattle.morris_board.specs.Positions.{Sides}
-use Rattle.morris_moves.specs.declared.step.Move.{Move}
+use Rattle.morris_moves.specs.declared.game_move.Move.{Move}
 use Rattle.morris_lookup.specs.declared.fault.ViewFault.{ViewFault}
 use Rattle.morris_lookup.specs.declared.records.MoveRecord.{MoveRecord}
 use Rattle.morris_lookup.specs.Listing.{outcome_of, with_first, outcomes_said, IsExactOutcome, AreExactOutcomes}

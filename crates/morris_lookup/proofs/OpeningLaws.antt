@@ -17,14 +17,14 @@ use Rattle.morris_pairs.specs.Tables.{Table, table}
 use Rattle.morris_pairs.specs.Raws.{IsRaw}
 use Rattle.morris_pairs.specs.TableFiles.{file_of}
 use Rattle.morris_pairs.specs.declared.header.Header.{Header}
-use Rattle.morris_pairs.specs.FileReading.{unless, and_then, header_at, kind_in, counted_in, heading_in, header_in, codes_in, body_in, file_in, IsOfBytes}
+use Rattle.morris_pairs.specs.FileReading.{unless, and_then, header_at, kind_in, check_count, check_header, header_in, codes_in, body_in, file_in, IsOfBytes}
 use Rattle.morris_pairs.specs.declared.file_faults.ReadFault.{ReadFault}
 use Rattle.morris_pairs.specs.declared.file_faults.ReadFault.TheVariants as fault
 use Rattle.morris_pairs.proofs.FileLaws.{header_in-short, file_in-file_of, length-file_of}
 use Rattle.morris_pairs.proofs.ReadingLaws.{ok_same, room_refused}
 use Rattle.morris_lookup.specs.declared.fault.OpenFault.TheVariants as opening
 use Rattle.morris_lookup.specs.Storage.{bytes_at, CountsBytes}
-use Rattle.morris_lookup.specs.Opening.{file_size, measured_in, framed_in, borne_out, IsHeaded, IsFramingRefusal, IsOpen, IsOpeningRefusal, OpenFile, Opens}
+use Rattle.morris_lookup.specs.Opening.{file_size, check_size, check_file, check_length, HasHeader, IsCheckRefusal, IsOpen, IsOpeningRefusal, OpenFile, Opens}
 
 -- ---- bytes by their header and number
 
@@ -34,17 +34,17 @@ left_of kind (Ok done) = Ok kind
 left_of kind (Err refusal) = Err refusal
 
 module _ (board : Shape) (bytes : List ℕ) where
-  framed_short : length bytes < 16 → framed_in board bytes ≡ Err fault.Short
-  unfolding framed_in
+  framed_short : length bytes < 16 → check_file board bytes ≡ Err fault.Short
+  unfolding check_file
   framed_short short = rw (header_in-short board bytes short) refl
 
-  framed_refused : 16 ≤ length bytes → (refusal : ReadFault) → Err refusal ≡ kind_in board (header_at (take 16 bytes)) → framed_in board bytes ≡ Err refusal
-  unfolding framed_in header_in heading_in
+  framed_refused : 16 ≤ length bytes → (refusal : ReadFault) → Err refusal ≡ kind_in board (header_at (take 16 bytes)) → check_file board bytes ≡ Err refusal
+  unfolding check_file header_in check_header
   framed_refused long refusal e = rw (le-leb 16 (length bytes) long, ← e) refl
 
-  module _ (kind : Layout × Counts) (stated n : ℕ) (here : IsHeaded board kind stated n bytes) where
-    framed_here : framed_in board bytes ≡ left_of kind (borne_out (header_at (take 16 bytes)).entries (length bytes) (entry_count board board.points kind.0 kind.1))
-    unfolding framed_in header_in heading_in counted_in measured_in borne_out
+  module _ (kind : Layout × Counts) (stated n : ℕ) (here : HasHeader board kind stated n bytes) where
+    framed_here : check_file board bytes ≡ left_of kind (check_length (header_at (take 16 bytes)).entries (length bytes) (entry_count board board.points kind.0 kind.1))
+    unfolding check_file header_in check_header check_count check_size check_length
     framed_here =
         let said : ℕ = (header_at (take 16 bytes)).entries in
         let count : ℕ = entry_count board board.points kind.0 kind.1 in
@@ -61,18 +61,18 @@ module _ (board : Shape) (bytes : List ℕ) where
         ]
 
     module _ (m : ℕ) (points : board.points ≡ m) (count : ℕ) (counted : count ≡ entry_count board m kind.0 kind.1) where
-      framed_counted : framed_in board bytes ≡ left_of kind (borne_out stated n count)
+      framed_counted : check_file board bytes ≡ left_of kind (check_length stated n count)
       framed_counted =
           let all : count ≡ entry_count board board.points kind.0 kind.1 = counted ∙ ap (λ p. entry_count board p kind.0 kind.1) (sym points) in
           rw (here.many, all, here.states) framed_here
 
-      pub framed_not_borne : (refusal : ReadFault) → Err refusal ≡ borne_out stated n count → framed_in board bytes ≡ Err refusal
+      pub framed_not_borne : (refusal : ReadFault) → Err refusal ≡ check_length stated n count → check_file board bytes ≡ Err refusal
       framed_not_borne refusal e = framed_counted ∙ ap (left_of kind) (sym e)
 
-      pub framed_found : (done : Unit {0}) → Ok done ≡ borne_out stated n count → framed_in board bytes ≡ Ok kind
+      pub framed_found : (done : Unit {0}) → Ok done ≡ check_length stated n count → check_file board bytes ≡ Ok kind
       framed_found done e = framed_counted ∙ ap (left_of kind) (sym e)
 
-of_bytes : (board : Shape) (bytes : List ℕ) (refusal : ReadFault) → framed_in board bytes ≡ Err refusal → IsOfBytes refusal → IsFramingRefusal board bytes refusal
+of_bytes : (board : Shape) (bytes : List ℕ) (refusal : ReadFault) → check_file board bytes ≡ Err refusal → IsOfBytes refusal → IsCheckRefusal board bytes refusal
 of_bytes board bytes fault.Memory e r = absurd r
 of_bytes board bytes fault.Read e r = absurd r
 of_bytes board bytes refusal e r = e
@@ -87,31 +87,31 @@ pub held_known : (o held : Option (List ℕ)) (P : List ℕ → Type 0) → IfSo
 held_known None held P same h = tt
 held_known (Some bytes) held P same h = subst (λ o. IfSome o P) same h
 
-pub known_framed : (board : Shape) (file : OpenFile) → IsOpen board file → IfSome file.bytes (λ bytes. framed_in board bytes ≡ Ok (file.layout, file.pair))
-known_framed board file right = held_known file.bytes file.held (λ bytes. framed_in board bytes ≡ Ok (file.layout, file.pair)) right.kept right.framed
+pub known_framed : (board : Shape) (file : OpenFile) → IsOpen board file → IfSome file.bytes (λ bytes. check_file board bytes ≡ Ok (file.layout, file.pair))
+known_framed board file right = held_known file.bytes file.held (λ bytes. check_file board bytes ≡ Ok (file.layout, file.pair)) right.unchanged right.checked
 
 module _ (board : Shape) (o : Option (List ℕ)) where
   abbrev IsRefusedBy : ReadFault → Type 0
-  IsRefusedBy refusal = IfSome o (λ bytes. IsFramingRefusal board bytes refusal)
+  IsRefusedBy refusal = IfSome o (λ bytes. IsCheckRefusal board bytes refusal)
 
-pub frame_refused : (board : Shape) (o : Option (List ℕ)) (refusal : ReadFault) → IfSome o (λ bytes. (framed_in board bytes ≡ Err refusal) × IsOfBytes refusal)
+pub frame_refused : (board : Shape) (o : Option (List ℕ)) (refusal : ReadFault) → IfSome o (λ bytes. (check_file board bytes ≡ Err refusal) × IsOfBytes refusal)
     → IsRefusedBy board o refusal
 frame_refused board None refusal h = tt
 frame_refused board (Some bytes) refusal h = of_bytes board bytes refusal h.0 h.1
 
 module _ (board : Shape) (stated n : ℕ) where
-  pub frame_roomless : (l : Layout) (c : Counts) (o : Option (List ℕ)) → IfSome o (IsHeaded board (l, c) stated n) → (l ≡ Full → ⊥) → IsRefusedBy board o fault.Memory
+  pub frame_roomless : (l : Layout) (c : Counts) (o : Option (List ℕ)) → IfSome o (HasHeader board (l, c) stated n) → (l ≡ Full → ⊥) → IsRefusedBy board o fault.Memory
   frame_roomless l c None here classes = tt
   frame_roomless l c (Some bytes) here classes = (here.long, room_refused board (header_at (take 16 bytes)) l c here.says classes)
 
   module _ (kind : Layout × Counts) (m : ℕ) (points : board.points ≡ m) (count : ℕ) (counted : count ≡ entry_count board m kind.0 kind.1) where
-    pub frame_not_borne : (o : Option (List ℕ)) → IfSome o (IsHeaded board kind stated n) → (refusal : ReadFault) → Err refusal ≡ borne_out stated n count
+    pub frame_not_borne : (o : Option (List ℕ)) → IfSome o (HasHeader board kind stated n) → (refusal : ReadFault) → Err refusal ≡ check_length stated n count
         → IsOfBytes refusal → IsRefusedBy board o refusal
     frame_not_borne None here refusal e of = tt
     frame_not_borne (Some bytes) here refusal e of = of_bytes board bytes refusal (framed_not_borne board bytes kind stated n here m points count counted refusal e) of
 
-    pub frame_found : (o : Option (List ℕ)) → IfSome o (IsHeaded board kind stated n) → (done : Unit {0}) → Ok done ≡ borne_out stated n count
-        → IfSome o (λ bytes. framed_in board bytes ≡ Ok kind)
+    pub frame_found : (o : Option (List ℕ)) → IfSome o (HasHeader board kind stated n) → (done : Unit {0}) → Ok done ≡ check_length stated n count
+        → IfSome o (λ bytes. check_file board bytes ≡ Ok kind)
     frame_found None here done e = tt
     frame_found (Some bytes) here done e = framed_found board bytes kind stated n here m points count counted done e
 
@@ -124,10 +124,10 @@ apart c d differ = λ same.
     both_ways _ (not-true _ differ) (and_from _ _ (eq-eqb _ _ (ap (λ (x : Counts). x.greater) same)) (eq-eqb _ _ (ap (λ (x : Counts). x.lesser) same)))
 
 -- the file of another pair is refused as such
-pub other_pair : (board : Shape) (wanted : Counts) (o : Option (List ℕ)) (kind : Layout × Counts) → IfSome o (λ bytes. framed_in board bytes ≡ Ok kind) → kind.1 ≢ wanted
+pub other_pair : (board : Shape) (wanted : Counts) (o : Option (List ℕ)) (kind : Layout × Counts) → IfSome o (λ bytes. check_file board bytes ≡ Ok kind) → kind.1 ≢ wanted
     → IfSome o (λ bytes. IsOpeningRefusal board wanted bytes opening.Pair)
-other_pair board wanted None kind framed other = tt
-other_pair board wanted (Some bytes) kind framed other = (kind, framed, other)
+other_pair board wanted None kind checked other = tt
+other_pair board wanted (Some bytes) kind checked other = (kind, checked, other)
 
 -- what a reader found that counted the bytes and read the first of them
 module _ (board : Shape) (n : ℕ) (front : List ℕ) (sized : length front ≡ 16) (enough : 16 ≤ n) (header : Header) (is : header ≡ header_at front) where
@@ -135,7 +135,7 @@ module _ (board : Shape) (n : ℕ) (front : List ℕ) (sized : length front ≡ 
   same_header bytes read = is ∙ ap header_at (read ∙ ap (λ k. bytes_at bytes 0 k) sized)
 
   pub headed : (o : Option (List ℕ)) → IfSome o (λ bytes. n ≡ length bytes) → IfSome o (λ bytes. front ≡ bytes_at bytes 0 (length front))
-      → (kind : Layout × Counts) → Ok kind ≡ kind_in board header → IfSome o (IsHeaded board kind header.entries n)
+      → (kind : Layout × Counts) → Ok kind ≡ kind_in board header → IfSome o (HasHeader board kind header.entries n)
   headed None counted read kind says = tt
   headed (Some bytes) counted read kind says = record {
     long = omega (arith, enough, counted);
@@ -145,20 +145,20 @@ module _ (board : Shape) (n : ℕ) (front : List ℕ) (sized : length front ≡ 
   }
 
   pub unheaded : (o : Option (List ℕ)) → IfSome o (λ bytes. n ≡ length bytes) → IfSome o (λ bytes. front ≡ bytes_at bytes 0 (length front))
-      → (refusal : ReadFault) → Err refusal ≡ kind_in board header → IsOfBytes refusal → IfSome o (λ bytes. (framed_in board bytes ≡ Err refusal) × IsOfBytes refusal)
+      → (refusal : ReadFault) → Err refusal ≡ kind_in board header → IsOfBytes refusal → IfSome o (λ bytes. (check_file board bytes ≡ Err refusal) × IsOfBytes refusal)
   unheaded None counted read refusal e of = tt
   unheaded (Some bytes) counted read refusal e of =
       (framed_refused board bytes (omega (arith, enough, counted)) refusal (e ∙ ap (kind_in board) (same_header bytes read)), of)
 
 pub too_short : (E : Type 0) (board : Shape) (o : Option (List ℕ)) (n : ℕ) → CountsBytes {E = E} o (Ok n) → n < 16
-    → IfSome o (λ bytes. (framed_in board bytes ≡ Err fault.Short) × IsOfBytes fault.Short)
+    → IfSome o (λ bytes. (check_file board bytes ≡ Err fault.Short) × IsOfBytes fault.Short)
 too_short E board None n counted short = tt
 too_short E board (Some bytes) n counted short = let all : n ≡ length bytes = cc in (framed_short board bytes (omega (arith, short, all)), tt)
 
 -- bytes that no step refuses are as many as the file of the table has
-pub size_of_framed : (board : Shape) (bytes : List ℕ) (kind : Layout × Counts) → framed_in board bytes ≡ Ok kind
+pub size_of_framed : (board : Shape) (bytes : List ℕ) (kind : Layout × Counts) → check_file board bytes ≡ Ok kind
     → length bytes ≡ 16 + 2 * entry_count board board.points kind.0 kind.1 + 32
-unfolding framed_in measured_in
+unfolding check_file check_size
 size_of_framed board bytes kind e = from (header_in board bytes) e
   where
     no : (refusal : ReadFault) → Err refusal ≡ Ok kind → ⊥
@@ -177,7 +177,7 @@ size_of_framed board bytes kind e = from (header_in board bytes) e
       | inr fewer ↦ absurd (no fault.Short (rw fewer at f))
     ]
 
-    from : (r : Result (Layout × Counts) ReadFault) → and_then r (measured_in board (length bytes)) ≡ Ok kind → length bytes ≡ file_size board kind
+    from : (r : Result (Layout × Counts) ReadFault) → and_then r (check_size board (length bytes)) ≡ Ok kind → length bytes ≡ file_size board kind
     from (Ok found) f = size found f
     from (Err refusal) f = absurd (no refusal f)
 
@@ -211,8 +211,8 @@ header_read board bytes t left e = from (header_in board bytes) e
 
 module _ (board : Shape) (low : board.points ≤ 24) (y : HasSymmetries board) where
   -- the file of a table has the table's header and as many bytes as it says
-  pub framed_file : (t : Table) → IsRaw board t → framed_in board (file_of board t) ≡ Ok (t.layout, t.pair)
-  unfolding framed_in measured_in
+  pub framed_file : (t : Table) → IsRaw board t → check_file board (file_of board t) ≡ Ok (t.layout, t.pair)
+  unfolding check_file check_size
   framed_file t raw =
       let read : file_in board (file_of board t) ≡ Ok (t, []) =
       ap (file_in board) (sym (append-nil (file_of board t)))
@@ -226,23 +226,23 @@ module _ (board : Shape) (low : board.points ≤ 24) (y : HasSymmetries board) w
       ) refl
 
   -- so it is a file of its pair, and no step refuses it
-  no_refusal : (t : Table) → IsRaw board t → (refusal : ReadFault) → framed_in board (file_of board t) ≡ Err refusal → ⊥
+  no_refusal : (t : Table) → IsRaw board t → (refusal : ReadFault) → check_file board (file_of board t) ≡ Err refusal → ⊥
   no_refusal t raw refusal e = let l = framed_file t raw in cc
 
   module _ (t : Table) (raw : IsRaw board t) where
-    opens_unless : (refusal : ReadFault) → IsFramingRefusal board (file_of board t) refusal → Opens t.layout (Err (opening.File refusal))
+    opens_unless : (refusal : ReadFault) → IsCheckRefusal board (file_of board t) refusal → Opens t.layout (Err (opening.File refusal))
     opens_unless fault.Memory h = tt
     opens_unless fault.Read h = absurd h
     opens_unless refusal h = absurd (no_refusal t raw refusal h)
 
     pub opens_refused : (o : Option (List ℕ)) → o ≡ Some (file_of board t) → (refusal : ReadFault)
-        → IfSome o (λ bytes. IsFramingRefusal board bytes refusal) → Opens t.layout (Err (opening.File refusal))
+        → IfSome o (λ bytes. IsCheckRefusal board bytes refusal) → Opens t.layout (Err (opening.File refusal))
     opens_refused o known refusal h =
-        opens_unless refusal (at_bytes (λ bytes. IsFramingRefusal board bytes refusal) o (file_of board t) known h)
+        opens_unless refusal (at_bytes (λ bytes. IsCheckRefusal board bytes refusal) o (file_of board t) known h)
 
     -- what was found is the table's layout and pair
     pub kind_found : (o : Option (List ℕ)) → o ≡ Some (file_of board t) → (kind : Layout × Counts)
-        → IfSome o (λ bytes. framed_in board bytes ≡ Ok kind) → kind ≡ (t.layout, t.pair)
+        → IfSome o (λ bytes. check_file board bytes ≡ Ok kind) → kind ≡ (t.layout, t.pair)
     kind_found o known kind h =
-        let named : framed_in board (file_of board t) ≡ Ok kind = at_bytes (λ bytes. framed_in board bytes ≡ Ok kind) o (file_of board t) known h in
-        ok_same {A = Layout × Counts} (framed_in board (file_of board t)) kind (t.layout, t.pair) named (framed_file t raw)
+        let named : check_file board (file_of board t) ≡ Ok kind = at_bytes (λ bytes. check_file board bytes ≡ Ok kind) o (file_of board t) known h in
+        ok_same {A = Layout × Counts} (check_file board (file_of board t)) kind (t.layout, t.pair) named (framed_file t raw)

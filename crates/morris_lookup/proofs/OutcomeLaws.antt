@@ -10,7 +10,7 @@ use Rattle.std.proofs.lemmas.List.{map-append}
 use Rattle.std.proofs.lemmas.List.Elements.{Contains-push_cases, Contains-push, Contains-append_left}
 use Rattle.morris_board.specs.Boards.{Shape}
 use Rattle.morris_board.specs.Positions.{Sides}
-use Rattle.morris_moves.specs.declared.step.Move.{Move}
+use Rattle.morris_moves.specs.declared.game_move.Move.{Move}
 use Rattle.morris_moves.specs.Rules.{moves_of, result_of}
 use Rattle.morris_pairs.specs.declared.value.Value.{Value}
 use Rattle.morris_pairs.specs.declared.value.Value.TheVariants.{Draw, Won, Lost}
@@ -20,22 +20,22 @@ use Rattle.morris_probe.proofs.BestLaws.{AreBestOf, best_more, best_none, best_s
 use Rattle.morris_probe.proofs.SomeBest.{HasValues}
 use Rattle.morris_lookup.specs.declared.outcomes.Outcome.{Outcome}
 use Rattle.morris_lookup.specs.FileSets.{AreExactAfter, Files, IsExactAt, missing_file, said_of, IsValueRefusal}
-use Rattle.morris_lookup.specs.Outcomes.{best_among, same_value, turned, ArePicked, IsOutcome, IsOutcomeRefusal}
+use Rattle.morris_lookup.specs.Outcomes.{best_among, same_value, value_for_mover, ArePicked, IsOutcome, IsOutcomeRefusal}
 use Rattle.morris_lookup.specs.declared.fault.LookFault.{LookFault}
 use Rattle.morris_lookup.specs.declared.fault.LookFault.TheVariants as fault
-use Rattle.morris_lookup.specs.Lines.{Falls}
+use Rattle.morris_lookup.specs.Lines.{IsPlyLess}
 
-pub turned-best : (found next : Value) → turned next ≡ found → after_best found ≡ Some next
-turned-best found Draw e = subst (λ v. after_best v ≡ Some Draw) e refl
-turned-best found (Won depth) e = subst (λ v. after_best v ≡ Some (Won depth)) e refl
-turned-best found (Lost depth) e = subst (λ v. after_best v ≡ Some (Lost depth)) e refl
+pub value_for_mover-best : (found next : Value) → value_for_mover next ≡ found → after_best found ≡ Some next
+value_for_mover-best found Draw e = subst (λ v. after_best v ≡ Some Draw) e refl
+value_for_mover-best found (Won depth) e = subst (λ v. after_best v ≡ Some (Won depth)) e refl
+value_for_mover-best found (Lost depth) e = subst (λ v. after_best v ≡ Some (Lost depth)) e refl
 
-pub best-turned : (found next : Value) → after_best found ≡ Some next → turned next ≡ found
-best-turned Draw next e = let is : next ≡ Draw = cc in ap turned is
-best-turned (Won zero) next e = cc
-best-turned (Won (suc depth)) next e = let is : next ≡ Lost depth = cc in ap turned is
-best-turned (Lost zero) next e = cc
-best-turned (Lost (suc depth)) next e = let is : next ≡ Won depth = cc in ap turned is
+pub best-value_for_mover : (found next : Value) → after_best found ≡ Some next → value_for_mover next ≡ found
+best-value_for_mover Draw next e = let is : next ≡ Draw = cc in ap value_for_mover is
+best-value_for_mover (Won zero) next e = cc
+best-value_for_mover (Won (suc depth)) next e = let is : next ≡ Lost depth = cc in ap value_for_mover is
+best-value_for_mover (Lost zero) next e = cc
+best-value_for_mover (Lost (suc depth)) next e = let is : next ≡ Won depth = cc in ap value_for_mover is
 
 -- ---- values that are the same
 
@@ -59,19 +59,19 @@ abbrev pub steps : List Outcome → List Move
 steps os = map (λ (o : Outcome). o.step) os
 
 -- the outcome of a move whose result has a value
-module _ (F : Type 0) (board : Shape) (files : Files) (s p : Sides) (m : Move) (leads : p ≡ result_of s m) (next : Value) where
+module _ (F : Type 0) (board : Shape) (files : Files) (s p : Sides) (m : Move) (class_words : p ≡ result_of s m) (next : Value) where
   abbrev value_in_answer : Result Value F → Value
   value_in_answer (Ok value) = value
   value_in_answer (Err fault) = next
 
   pub outcome_told : missing_file files p ≡ None → ((value : Value) → said_of board files p ≡ Some value → ◌≡◌ {A = Result Value F} (Ok next) (Ok value))
-      → (IsExactAt board files p → IsValue board p next) → (value : Value) → value ≡ turned next → IsOutcome board files s (record { step = m; value = value })
+      → (IsExactAt board files p → IsValue board p next) → (value : Value) → value ≡ value_for_mover next → IsOutcome board files s (record { step = m; value = value })
   outcome_told found said exact value is = record {
     next = next;
-    found = subst (λ q. missing_file files q ≡ None) leads found;
-    turned_round = is;
-    said = λ v e. ap value_in_answer (said v (subst (λ q. said_of board files q ≡ Some v) (sym leads) e));
-    exact = λ h. subst (λ q. IsValue board q next) leads (exact (subst (IsExactAt board files) (sym leads) h));
+    found = subst (λ q. missing_file files q ≡ None) class_words found;
+    for_mover = is;
+    said = λ v e. ap value_in_answer (said v (subst (λ q. said_of board files q ≡ Some v) (sym class_words) e));
+    exact = λ h. subst (λ q. IsValue board q next) class_words (exact (subst (IsExactAt board files) (sym class_words) h));
   }
 
 -- why there is no value after a legal move is why there is no outcome
@@ -119,23 +119,23 @@ module _ (board : Shape) (files : Files) (s : Sides) (value : Value) where
 
   -- an outcome of this value, or of another
   module _ (o : Outcome) (h : IsOutcome board files s o) where
-    next_said : (next : Value) → said_of board files (result_of s o.step) ≡ Some next → o.value ≡ turned next
-    next_said next e = h.turned_round ∙ ap turned (h.said next e)
+    next_said : (next : Value) → said_of board files (result_of s o.step) ≡ Some next → o.value ≡ value_for_mover next
+    next_said next e = h.for_mover ∙ ap value_for_mover (h.said next e)
 
-    may_lead : o.value ≡ value → (said : Option Value) → said_of board files (result_of s o.step) ≡ said → IfSome said (λ next. turned next ≡ value)
+    may_lead : o.value ≡ value → (said : Option Value) → said_of board files (result_of s o.step) ≡ said → IfSome said (λ next. value_for_mover next ≡ value)
     may_lead is None e = tt
     may_lead is (Some next) e = sym (next_said next e) ∙ is
 
-    may_not_lead : o.value ≢ value → (said : Option Value) → said_of board files (result_of s o.step) ≡ said → IfSome said (λ next. turned next ≢ value)
+    may_not_lead : o.value ≢ value → (said : Option Value) → said_of board files (result_of s o.step) ≡ said → IfSome said (λ next. value_for_mover next ≢ value)
     may_not_lead other None e = tt
     may_not_lead other (Some next) e = λ same. other (next_said next e ∙ same)
 
   -- those that are the best of some outcomes are picked of their moves
   pub picked_among : (os : List Outcome) → ((o : Outcome) → Contains os o → IsOutcome board files s o) → ArePicked board files s value (steps os) (best_among value os)
-  picked_among [] told = refl
-  picked_among (o ∷ os) told =
-      let here = told o (Contains-head o os) in
-      let rest = picked_among os (λ p c. told p (Contains-tail o os p c)) in
+  picked_among [] reported = refl
+  picked_among (o ∷ os) reported =
+      let here = reported o (Contains-head o os) in
+      let rest = picked_among os (λ p c. reported p (Contains-tail o os p c)) in
       let said = said_of board files (result_of s o.step) in
       elim (cases_Bool (same_value o.value value)) [
         | inl alike ↦ rw alike (inr (best_among value os, refl, may_lead o here (same_true o.value value alike) said refl, rest))
@@ -146,49 +146,49 @@ module _ (board : Shape) (files : Files) (s : Sides) (value : Value) where
 
 -- a move leads to this value: that of the position after it, turned round
 abbrev pub Leads : Shape → Sides → Outcome → Type 0
-Leads board s o = (next : Value) × IsValue board (result_of s o.step) next × (o.value ≡ turned next)
+Leads board s o = (next : Value) × IsValue board (result_of s o.step) next × (o.value ≡ value_for_mover next)
 
 pub values_among : (board : Shape) (s : Sides) (os : List Outcome) → ((o : Outcome) → Contains os o → Leads board s o) → HasValues board s (steps os)
-values_among board s os lead m c =
+values_among board s os class_word m c =
     let from = Contains-map_cases (λ (o : Outcome). o.step) os m c in
-    let there = lead from.0 from.1 in
+    let there = class_word from.0 from.1 in
     (there.0, subst (λ x. IsValue board (result_of s x) there.0) from.2 there.1)
 
 module _ (board : Shape) (s : Sides) (value : Value) where
   best_from : (seen best : List Move) (os : List Outcome) → AreBestOf board s value seen best → AllPairs Precedes (seen ++ steps os)
       → ((o : Outcome) → Contains os o → Leads board s o) → AreBestOf board s value (seen ++ steps os) (best ++ best_among value os)
-  best_from seen best [] so_far order lead = subst (λ b. AreBestOf board s value (seen ++ []) b) (sym (append-nil best)) (subst (λ m. AreBestOf board s value m best) (sym (append-nil seen)) so_far)
-  best_from seen best (o ∷ os) so_far order lead = elim (cases_Bool (same_value o.value value)) [
+  best_from seen best [] so_far order class_word = subst (λ b. AreBestOf board s value (seen ++ []) b) (sym (append-nil best)) (subst (λ m. AreBestOf board s value m best) (sym (append-nil seen)) so_far)
+  best_from seen best (o ∷ os) so_far order class_word = elim (cases_Bool (same_value o.value value)) [
     | inl alike ↦
-        let here = lead o (Contains-head o os) in
-        let on : LeadsOn board s value o.step = (here.0, turned-best value here.0 (sym here.2 ∙ same_true o.value value alike), here.1) in
+        let here = class_word o (Contains-head o os) in
+        let on : LeadsOn board s value o.step = (here.0, value_for_mover-best value here.0 (sym here.2 ∙ same_true o.value value alike), here.1) in
         let next : AreBestOf board s value ((seen ++ o.step ∷ []) ++ steps os) ((best ++ o.step ∷ []) ++ best_among value os) =
         best_from (seen ++ o.step ∷ []) (best ++ o.step ∷ []) os (best_more board s value seen (steps os) best o.step so_far order on)
-        (subst (AllPairs Precedes) (sym (append_assoc seen (o.step ∷ []) (steps os))) order) (λ p c. lead p (Contains-tail o os p c)) in
+        (subst (AllPairs Precedes) (sym (append_assoc seen (o.step ∷ []) (steps os))) order) (λ p c. class_word p (Contains-tail o os p c)) in
         rw alike (subst (AreBestOf board s value (seen ++ o.step ∷ steps os)) (append_assoc best (o.step ∷ []) (best_among value os))
         (subst (λ m. AreBestOf board s value m ((best ++ o.step ∷ []) ++ best_among value os)) (append_assoc seen (o.step ∷ []) (steps os)) next))
     | inr apart ↦
-        let here = lead o (Contains-head o os) in
+        let here = class_word o (Contains-head o os) in
         let off : LeadsOn board s value o.step → ⊥ =
-        leads_off board s value o.step here.0 here.1 (λ e. apart_values o.value value (here.2 ∙ best-turned value here.0 e) apart) in
+        leads_off board s value o.step here.0 here.1 (λ e. apart_values o.value value (here.2 ∙ best-value_for_mover value here.0 e) apart) in
         let next : AreBestOf board s value ((seen ++ o.step ∷ []) ++ steps os) (best ++ best_among value os) =
         best_from (seen ++ o.step ∷ []) best os (best_same board s value seen (steps os) best o.step so_far off)
-        (subst (AllPairs Precedes) (sym (append_assoc seen (o.step ∷ []) (steps os))) order) (λ p c. lead p (Contains-tail o os p c)) in
+        (subst (AllPairs Precedes) (sym (append_assoc seen (o.step ∷ []) (steps os))) order) (λ p c. class_word p (Contains-tail o os p c)) in
         rw apart (subst (λ m. AreBestOf board s value m (best ++ best_among value os)) (append_assoc seen (o.step ∷ []) (steps os)) next)
   ]
 
   pub best_right : (os : List Outcome) → steps os ≡ moves_of board s → ((o : Outcome) → Contains os o → Leads board s o) → IsValue board s value
       → AreBestOf board s value (moves_of board s) (best_among value os)
-  best_right os listed lead here =
+  best_right os listed class_word here =
       subst (λ ms. AreBestOf board s value ms (best_among value os)) listed
-      (best_from [] [] os (best_none board s value) (subst (AllPairs Precedes) (sym listed) (moves_in_order board s)) lead)
+      (best_from [] [] os (best_none board s value) (subst (AllPairs Precedes) (sym listed) (moves_in_order board s)) class_word)
 
 module _ (board : Shape) (files : Files) (s : Sides) (os : List Outcome) (listed : steps os ≡ moves_of board s)
-    (told : (o : Outcome) → Contains os o → IsOutcome board files s o) (after : AreExactAfter board files s) where
+    (reported : (o : Outcome) → Contains os o → IsOutcome board files s o) (after : AreExactAfter board files s) where
   leads_among : (o : Outcome) → Contains os o → Leads board s o
   leads_among o c =
-      let h = told o c in
-      (h.next, h.exact (after o.step (subst (λ ms. Contains ms o.step) listed (Contains-map (λ (p : Outcome). p.step) os o c))), h.turned_round)
+      let h = reported o c in
+      (h.next, h.exact (after o.step (subst (λ ms. Contains ms o.step) listed (Contains-map (λ (p : Outcome). p.step) os o c))), h.for_mover)
 
   pub values_told : HasValues board s (moves_of board s)
   values_told = subst (HasValues board s) listed (values_among board s os leads_among)
@@ -207,11 +207,11 @@ first_some [] m e = cc
 first_some (x ∷ moves) m e = let same : x ≡ m = cc in subst (Contains (x ∷ moves)) same (Contains-head x moves)
 
 -- a best move makes the depth fall
-pub best_falls : (board : Shape) (s : Sides) (m : Move) (t : Sides) → t ≡ result_of s m → IsBest board s m → Falls board s t
-best_falls board s m t leads best = record {
+pub best_falls : (board : Shape) (s : Sides) (m : Move) (t : Sides) → t ≡ result_of s m → IsBest board s m → IsPlyLess board s t
+best_falls board s m t class_words best = record {
   value = best.1.0;
   next = best.1.2.0;
   here = best.1.1;
-  there = subst (λ u. IsValue board u best.1.2.0) (sym leads) best.1.2.2;
+  there = subst (λ u. IsValue board u best.1.2.0) (sym class_words) best.1.2.2;
   one_less = best.1.2.1;
 }

@@ -7,7 +7,7 @@ use Rattle.morris_board.specs.Sets.{members, count_of}
 use Rattle.morris_index.specs.Binomials.{choose}
 use Rattle.morris_index.specs.Numbering.{rank_of}
 use Rattle.morris_lookup.specs.Representatives.{representatives_of}
-use Rattle.morris_lookup.specs.Prepared.{section_at, section_size, start_of, first_word, lead_of, IsPrepared, IsPreparedTo, AreLed, LeadAll, StayBefore}
+use Rattle.morris_lookup.specs.Prepared.{section_at, section_size, start_of, first_word, class_word_of, IsPrepared, IsPreparedTo, HaveClassWords, AreClassWords, StayBefore}
 use Rattle.morris_lookup.proofs.LeadLaws.{rank_inside}
 
 -- ---- the places of the sections
@@ -25,9 +25,9 @@ module _ (board : Shape) where
   unfolding section_size
   size-listed k low = rw (lt-ltb k 7 low) refl
 
-  pub size-led : (k : ℕ) → section_size board (7 + k) ≡ choose board.points (3 + k)
+  pub size-canonical_form : (k : ℕ) → section_size board (7 + k) ≡ choose board.points (3 + k)
   unfolding section_size
-  size-led k = rw (not_below k) (let e : 7 + k - 4 ≡ 3 + k = omega arith in ap (choose board.points) e)
+  size-canonical_form k = rw (not_below k) (let e : 7 + k - 4 ≡ 3 + k = omega arith in ap (choose board.points) e)
     where
       not_below : (k : ℕ) → ltb (7 + k) 7 ≡ false
       not_below k = false_from_ne_true _ (λ h. absurd (omega (arith, ltb-true (7 + k) 7 h)))
@@ -50,8 +50,8 @@ module _ (board : Shape) where
   pub start-listed : (j k : ℕ) → j < k → j < 7 → start_of board j + length (representatives_of board (3 + j)) ≤ start_of board k
   start-listed j k low listed = omega (arith, start-next j k low, size-listed j listed)
 
-  pub start-led : (j k : ℕ) → 7 + j < k → start_of board (7 + j) + choose board.points (3 + j) ≤ start_of board k
-  start-led j k low = omega (arith, start-next (7 + j) k low, size-led j)
+  pub start-canonical_form : (j k : ℕ) → 7 + j < k → start_of board (7 + j) + choose board.points (3 + j) ≤ start_of board k
+  start-canonical_form j k low = omega (arith, start-next (7 + j) k low, size-canonical_form j)
 
   pub prepared-none : (words : List ℕ) → 13 ≤ length words → get_or words 0 0 ≡ first_word board → get_or words 1 0 ≡ 13 → IsPreparedTo board 0 13 words
   prepared-none words long first one = record {
@@ -60,7 +60,7 @@ module _ (board : Shape) where
     starts = λ j h. let e : j ≡ 0 = omega arith in rw e (one ∙ sym start-zero);
     within = long;
     listed = λ j i h. absurd (omega arith);
-    led = λ j set h. absurd (omega arith);
+    canonical_form = λ j set h. absurd (omega arith);
   }
 
   -- ---- one section more
@@ -102,13 +102,13 @@ module _ (board : Shape) where
         ∙ before (start_of board j + i) (omega (arith, start-listed j k h listed, here.ends, inside))
         ∙ here.listed j i h listed inside
 
-    led_there_before : (j x : ℕ) → 7 + j < k → x < 2 ^ board.points → count_of x ≡ 3 + j
-        → get_or noted (start_of board (7 + j) + rank_of (members x)) 0 ≡ lead_of board x
-    led_there_before j x h small counted =
+    canonical_there_before : (j x : ℕ) → 7 + j < k → x < 2 ^ board.points → count_of x ≡ 3 + j
+        → get_or noted (start_of board (7 + j) + rank_of (members x)) 0 ≡ class_word_of board x
+    canonical_there_before j x h small counted =
         let inside = rank_inside board.points (3 + j) x few small counted in
         old_at (start_of board (7 + j) + rank_of (members x)) (omega (arith, start-least (7 + j)))
-        ∙ before (start_of board (7 + j) + rank_of (members x)) (omega (arith, start-led j k h, here.ends, inside))
-        ∙ here.led j x h small counted
+        ∙ before (start_of board (7 + j) + rank_of (members x)) (omega (arith, start-canonical_form j k h, here.ends, inside))
+        ∙ here.canonical_form j x h small counted
 
     pub listed-more : k < 7 → ((i : ℕ) → i < length (representatives_of board (3 + k)) → get_or filled (end + i) 0 ≡ get_or (representatives_of board (3 + k)) i 0)
         → IsPreparedTo board (k + 1) next noted
@@ -125,11 +125,11 @@ module _ (board : Shape) where
                 ∙ rw e (rw (← here.ends) (there i (subst (λ m. i < length (representatives_of board (3 + m))) e inside)))
             | inr d ↦ listed_there_before j i (omega arith) listed inside
           ];
-          led = λ j x h. absurd (omega arith);
+          canonical_form = λ j x h. absurd (omega arith);
         })
 
-    pub led-more : (m : ℕ) → k ≡ 7 + m → AreLed board (3 + m) end filled → IsPreparedTo board (k + 1) next noted
-    led-more m at there =
+    pub canonical_form-more : (m : ℕ) → k ≡ 7 + m → HaveClassWords board (3 + m) end filled → IsPreparedTo board (k + 1) next noted
+    canonical_form-more m at there =
         let e : suc k ≡ k + 1 = omega arith in
         subst (λ m. IsPreparedTo board m next noted) e (record {
           ends = omega (arith, is, here.ends, start-suc k);
@@ -137,13 +137,13 @@ module _ (board : Shape) where
           starts = starts_there;
           within = omega (arith, within, len, length-set filled (k + 2) next);
           listed = λ j i h listed inside. listed_there_before j i (omega (arith, at)) listed inside;
-          led = λ j x h small counted. elim (cases_eq j m) [
+          canonical_form = λ j x h small counted. elim (cases_eq j m) [
             | inl e ↦
                 let start : start_of board (7 + j) ≡ end = ap (start_of board) (let f : 7 + j ≡ k = omega (arith, at, e) in f) ∙ sym here.ends in
                 old_at (start_of board (7 + j) + rank_of (members x)) (omega (arith, start-least (7 + j)))
                 ∙ ap (λ s. get_or filled (s + rank_of (members x)) 0) start
                 ∙ there x small (omega (arith, counted, e))
-            | inr d ↦ led_there_before j x (omega (arith, at, h, d)) small counted
+            | inr d ↦ canonical_there_before j x (omega (arith, at, h, d)) small counted
           ];
         })
 
@@ -178,13 +178,13 @@ module _ (board : Shape) (words : List ℕ) (here : IsPrepared board words) (k :
       ext_get_or 0 (section_at words k) (representatives_of board (3 + k)) (length-section ∙ size)
       (λ i h. get_or-section i (omega (arith, h, length-section)) ∙ here.listed k i listed (omega (arith, h, length-section, size)))
 
-  pub section-leads : board.points ≤ 24 → (m : ℕ) → k ≡ 7 + m → LeadAll board (3 + m) (section_at words k)
-  section-leads few m at = λ some.
-      let size : section_size board k ≡ choose board.points (3 + m) = ap (section_size board) at ∙ size-led board m in (
+  pub section-class_words : board.points ≤ 24 → (m : ℕ) → k ≡ 7 + m → AreClassWords board (3 + m) (section_at words k)
+  section-class_words few m at = λ some.
+      let size : section_size board k ≡ choose board.points (3 + m) = ap (section_size board) at ∙ size-canonical_form board m in (
         omega (arith, length-section, size),
         (λ set small counted.
             ap (λ i. get_or (section_at words k) i 0) (zero-add (rank_of (members set)))
             ∙ get_or-section (rank_of (members set)) (omega (arith, rank_inside board.points (3 + m) set few small counted, size))
             ∙ ap (λ j. get_or words (start_of board j + rank_of (members set)) 0) at
-            ∙ here.led m set (omega (arith, at)) small counted),
+            ∙ here.canonical_form m set (omega (arith, at)) small counted),
       )

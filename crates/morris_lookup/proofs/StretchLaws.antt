@@ -7,7 +7,7 @@ use Rattle.std.proofs.lemmas.Nat.Bits.{bit_at_cat_low, bit_at_cat_high, bit_at_o
 use Rattle.std.proofs.Math.Nat.{mul-le-mul_right, pow-le-pow_right}
 use lib.Bits.{bit_and}
 use Rattle.morris_board.specs.Boards.{Shape}
-use Rattle.morris_board.specs.Sets.{has, count_of, is_within}
+use Rattle.morris_board.specs.Sets.{has, count_of, is_subset}
 use Rattle.morris_board.specs.Symmetries.{image_of, HasSymmetries}
 use Rattle.morris_board.proofs.PointsLaws.{same_points, has-and, has-none, within_each, each_within}
 use Rattle.morris_board.proofs.SetLaws.{lt_from_points, point_lt, count_of-part}
@@ -20,13 +20,13 @@ use Rattle.morris_index.proofs.ClassLaws.{symmetry_first, test_count, test_other
 pub whole : (n : ℕ) → 2 ^ (n - n / 3) * 2 ^ (n / 3) ≡ 2 ^ n
 whole n = let e : (n - n / 3) + n / 3 ≡ n = omega arith in sym (pow-add 2 (n - n / 3) (n / 3)) ∙ ap (λ k. 2 ^ k) e
 
-pub next_stretch : (n number : ℕ) → (number + 1) * 2 ^ (n / 3) ≡ number * 2 ^ (n / 3) + 2 ^ (n / 3)
-next_stretch n number = omega (arith, add-mul number 1 (2 ^ (n / 3)))
+pub next_chunk : (n number : ℕ) → (number + 1) * 2 ^ (n / 3) ≡ number * 2 ^ (n / 3) + 2 ^ (n / 3)
+next_chunk n number = omega (arith, add-mul number 1 (2 ^ (n / 3)))
 
-pub stretch_within : (n number : ℕ) → number < 2 ^ (n - n / 3) → number * 2 ^ (n / 3) + 2 ^ (n / 3) ≤ 2 ^ n
-stretch_within n number low =
+pub chunk_within : (n number : ℕ) → number < 2 ^ (n - n / 3) → number * 2 ^ (n / 3) + 2 ^ (n / 3) ≤ 2 ^ n
+chunk_within n number low =
     let le : (number + 1) * 2 ^ (n / 3) ≤ 2 ^ (n - n / 3) * 2 ^ (n / 3) = mul-le-mul_right (2 ^ (n / 3)) (omega arith) in
-    omega (arith, le, next_stretch n number, whole n)
+    omega (arith, le, next_chunk n number, whole n)
 
 pub few_masks : (n : ℕ) → n ≤ 24 → 2 ^ n ≤ 2 ^ 24
 few_masks n few = pow-le-pow_right {n = 2} (omega arith) {i = n} {j = 24} few
@@ -65,17 +65,17 @@ module _ (above k i : ℕ) (low : i < 2 ^ k) where
   some = omega (arith, low)
 
   -- the first set is a part
-  pub first_within : is_within (above * 2 ^ k) (above * 2 ^ k + i) ≡ true
+  pub first_within : is_subset (above * 2 ^ k) (above * 2 ^ k + i) ≡ true
   first_within =
       let e : above * 2 ^ k + 0 ≡ above * 2 ^ k = omega arith in
-      subst (λ s. is_within s (above * 2 ^ k + i) ≡ true) e
+      subst (λ s. is_subset s (above * 2 ^ k + i) ≡ true) e
       (each_within (above * 2 ^ k + 0) (above * 2 ^ k + i) (λ p here. elim (cases_lt p k) [
         | inl under ↦ absurd (both_ways (has 0 p) (has-none p) (sym (has_low above k 0 some p under) ∙ here))
         | inr over ↦ has_high above k i low p over ∙ sym (has_high above k 0 some p over) ∙ here
       ]))
 
   -- it is a part of the last one
-  pub within_last : is_within (above * 2 ^ k + i) (above * 2 ^ k + (2 ^ k - 1)) ≡ true
+  pub within_last : is_subset (above * 2 ^ k + i) (above * 2 ^ k + (2 ^ k - 1)) ≡ true
   within_last =
       let top : 2 ^ k - 1 < 2 ^ k = omega (arith, some) in
       each_within (above * 2 ^ k + i) (above * 2 ^ k + (2 ^ k - 1)) (λ p here. elim (cases_lt p k) [
@@ -87,7 +87,7 @@ module _ (above k i : ℕ) (low : i < 2 ^ k) where
 
 module _ (board : Shape) (few : board.points ≤ 24) (y : HasSymmetries board) (count first last set : ℕ)
     (first_small : first < 2 ^ board.points) (small : set < 2 ^ board.points)
-    (above : is_within first set ≡ true) (below : is_within set last ≡ true) where
+    (above : is_subset first set ≡ true) (below : is_subset set last ≡ true) where
   from_first : (p : ℕ) → has first p ≡ true → has set p ≡ true
   from_first = within_each first set (wide board.points first few first_small) above
 

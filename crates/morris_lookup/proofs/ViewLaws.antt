@@ -18,7 +18,7 @@ use Rattle.morris_pairs.specs.Entries.{entry_index}
 use Rattle.morris_pairs.specs.TableFiles.{magic}
 use Rattle.morris_pairs.specs.declared.header.Header.{Header}
 use Rattle.morris_pairs.specs.FileReading.{unless, are_counts, is_version, header_at, layout_in, kind_in}
-use Rattle.morris_lookup.specs.Opening.{framed_in, IsHeaded}
+use Rattle.morris_lookup.specs.Opening.{check_file, HasHeader}
 use Rattle.morris_lookup.specs.declared.fault.ViewFault.TheVariants as view
 use Rattle.morris_lookup.specs.Views.{is_by_classes, value_of_bytes, value_said, needs_words, names_pair, file_of_pair, IsExactAt, IsExactFile}
 use Rattle.morris_lookup.specs.Lookups.{code_at}
@@ -49,7 +49,7 @@ kind_says board h kind e =
     (passed (bytes_eq h.magic magic) fault.Magic _ kind e)))) in
     cc
 
-module _ (board : Shape) (bytes : List ℕ) (found : Layout) (pair : Counts) (stated n : ℕ) (here : IsHeaded board (found, pair) stated n bytes) where
+module _ (board : Shape) (bytes : List ℕ) (found : Layout) (pair : Counts) (stated n : ℕ) (here : HasHeader board (found, pair) stated n bytes) where
   says : ◌≡◌ {A = Layout × Counts} (found, pair) (layout_in (get_or (take 16 bytes) 4 0), counts (get_or (take 16 bytes) 6 0) (get_or (take 16 bytes) 7 0))
   says = kind_says board (header_at (take 16 bytes)) (found, pair) here.says
 
@@ -63,7 +63,7 @@ module _ (board : Shape) (bytes : List ℕ) (found : Layout) (pair : Counts) (st
   laid_by_classes y = version_is ∙ rw y refl
 
   -- the header is one of the pair that is named
-  pub named_heading : (c : Counts) → names_pair c bytes ≡ true → IsHeaded board (found, c) stated n bytes
+  pub named_heading : (c : Counts) → names_pair c bytes ≡ true → HasHeader board (found, c) stated n bytes
   named_heading c named =
       let parts = and_parts (nat_eq (get_or bytes 6 0) c.greater) (nat_eq (get_or bytes 7 0) c.lesser) (and_parts (nat_le 16 (length bytes)) _ named).1 in
       let same : pair ≡ c =
@@ -71,7 +71,7 @@ module _ (board : Shape) (bytes : List ℕ) (found : Layout) (pair : Counts) (st
       ∙ ap₂ counts
       (get_or-take 16 bytes 6 0 (omega arith) ∙ eqb-true (get_or bytes 6 0) c.greater parts.0)
       (get_or-take 16 bytes 7 0 (omega arith) ∙ eqb-true (get_or bytes 7 0) c.lesser parts.1) in
-      subst (λ p. IsHeaded board (found, p) stated n bytes) same here
+      subst (λ p. HasHeader board (found, p) stated n bytes) same here
 
 -- ---- answers
 
@@ -107,12 +107,12 @@ module _ (board : Shape) (files : List (List ℕ)) (s : Sides) where
 
 -- ---- what is said of bytes by the steps of opening
 
-pub said_by_kind : (board : Shape) (s : Sides) (bytes : List ℕ) (found : Result (Layout × Counts) ReadFault) → framed_in board bytes ≡ found
+pub said_by_kind : (board : Shape) (s : Sides) (bytes : List ℕ) (found : Result (Layout × Counts) ReadFault) → check_file board bytes ≡ found
     → result_map_both (λ (kind : Layout × Counts). value_in (code_at bytes (entry_index board board.points kind.0 kind.1 s))) view.File found ≡ value_of_bytes board s bytes
 unfolding value_of_bytes
 said_by_kind board s bytes found e = rw e refl
 
-pub header_by_kind : (board : Shape) (bytes : List ℕ) (found : Result (Layout × Counts) ReadFault) → framed_in board bytes ≡ found
+pub header_by_kind : (board : Shape) (bytes : List ℕ) (found : Result (Layout × Counts) ReadFault) → check_file board bytes ≡ found
     → result_map_both (header_record board) (λ refusal. refusal) found ≡ header_said board bytes
 unfolding header_said
 header_by_kind board bytes found e = rw e refl

@@ -7,7 +7,7 @@ use Rattle.morris_pairs.specs.declared.layout.Layout.{Layout}
 use Rattle.morris_pairs.specs.declared.file_faults.ReadFault.{ReadFault}
 use Rattle.morris_pairs.specs.Entries.{entry_count}
 use Rattle.morris_pairs.specs.TableFiles.{version_of}
-use Rattle.morris_lookup.specs.Opening.{framed_in}
+use Rattle.morris_lookup.specs.Opening.{check_file}
 use Rattle.morris_lookup.specs.declared.check.HeaderRecord.{HeaderRecord}
 
 abbrev pub header_record : Shape → Layout × Counts → HeaderRecord
@@ -22,4 +22,4 @@ header_record board kind = record {
 
 -- what the steps of the header and of the number of bytes find in any bytes
 unfoldable pub header_said : Shape → List ℕ → Result HeaderRecord ReadFault
-header_said board bytes = result_map_both (header_record board) (λ refusal. refusal) (framed_in board bytes)
+header_said board bytes = result_map_both (header_record board) (λ refusal. refusal) (check_file board bytes)

@@ -17,24 +17,24 @@ file_size board kind = 16 + 2 * entry_count board board.points kind.0 kind.1 + 3
 
 -- the last steps, once the header is right: the bytes are as many as a file of the table has, not
 -- fewer and not more
-unfoldable pub measured_in : Shape → ℕ → Layout × Counts → Result (Layout × Counts) ReadFault
-measured_in board n kind = unless (nat_le (file_size board kind) n) read.Short (unless (nat_le n (file_size board kind)) read.Trailing (Ok kind))
+unfoldable pub check_size : Shape → ℕ → Layout × Counts → Result (Layout × Counts) ReadFault
+check_size board n kind = unless (nat_le (file_size board kind) n) read.Short (unless (nat_le n (file_size board kind)) read.Trailing (Ok kind))
 
 -- the table whose file the bytes are, by their header and by how many they are, in steps
-unfoldable pub framed_in : Shape → List ℕ → Result (Layout × Counts) ReadFault
-framed_in board bytes = and_then (header_in board bytes) (measured_in board (length bytes))
+unfoldable pub check_file : Shape → List ℕ → Result (Layout × Counts) ReadFault
+check_file board bytes = and_then (header_in board bytes) (check_size board (length bytes))
 
 -- Why bytes that are known aren't taken for a file: no room for the classes, after the steps that
 -- come before they are made; or a step refuses them. Reads of them don't fail.
-abbrev pub IsFramingRefusal : Shape → List ℕ → ReadFault → Type 0
-IsFramingRefusal board bytes read.Memory = MayTakeRoom board (Some bytes)
-IsFramingRefusal board bytes read.Read = ⊥
-IsFramingRefusal board bytes refusal = framed_in board bytes ≡ Err refusal
+abbrev pub IsCheckRefusal : Shape → List ℕ → ReadFault → Type 0
+IsCheckRefusal board bytes read.Memory = MayTakeRoom board (Some bytes)
+IsCheckRefusal board bytes read.Read = ⊥
+IsCheckRefusal board bytes refusal = check_file board bytes ≡ Err refusal
 
 -- why they aren't opened as the file of a pair: the same, or they are a file of another pair
 abbrev pub IsOpeningRefusal : Shape → Counts → List ℕ → OpenFault → Type 0
-IsOpeningRefusal board wanted bytes (fault.File refusal) = IsFramingRefusal board bytes refusal
-IsOpeningRefusal board wanted bytes fault.Pair = (kind : Layout × Counts) × (framed_in board bytes ≡ Ok kind) × (kind.1 ≢ wanted)
+IsOpeningRefusal board wanted bytes (fault.File refusal) = IsCheckRefusal board bytes refusal
+IsOpeningRefusal board wanted bytes fault.Pair = (kind : Layout × Counts) × (check_file board bytes ≡ Ok kind) × (kind.1 ≢ wanted)
 
 -- a file that is open: what its header says; the bytes, where they are known and no read of them
 -- fails; and the bytes where they are known, though reads may fail
@@ -50,8 +50,8 @@ open_file layout pair bytes held = record { layout = layout; pair = pair; bytes 
 -- the bytes are those of a file by their header and number, and it is of this layout and pair
 pub record IsOpen (board : Shape) (file : OpenFile) : Type 0 where
   pub lawful : IsPair board.points file.pair
-  pub framed : IfSome file.held (λ bytes. framed_in board bytes ≡ Ok (file.layout, file.pair))
-  pub kept : IfSome file.bytes (λ bytes. file.held ≡ Some bytes)
+  pub checked : IfSome file.held (λ bytes. check_file board bytes ≡ Ok (file.layout, file.pair))
+  pub unchanged : IfSome file.bytes (λ bytes. file.held ≡ Some bytes)
 
 -- what may be the answer where the bytes are the file of a table: it is opened in the table's
 -- layout, but that room for the classes may be missing
@@ -64,7 +64,7 @@ Opens layout (Err refusal) = ⊥
 
 -- bytes begin with a header that says this layout and pair and states so many entries, and are so
 -- many
-pub record IsHeaded (board : Shape) (kind : Layout × Counts) (stated n : ℕ) (bytes : List ℕ) : Type 0 where
+pub record HasHeader (board : Shape) (kind : Layout × Counts) (stated n : ℕ) (bytes : List ℕ) : Type 0 where
   pub long : 16 ≤ length bytes
   pub says : Ok kind ≡ kind_in board (header_at (take 16 bytes))
   pub states : stated ≡ (header_at (take 16 bytes)).entries
@@ -72,8 +72,8 @@ pub record IsHeaded (board : Shape) (kind : Layout × Counts) (stated n : ℕ) (
 
 -- the last steps, once the layout and the pair are known: the number of entries that the header
 -- states is that of the table, and there are as many bytes as its file has
-unfoldable pub borne_out : ℕ → ℕ → ℕ → Result (Unit {0}) ReadFault
-borne_out stated n count =
+unfoldable pub check_length : ℕ → ℕ → ℕ → Result (Unit {0}) ReadFault
+check_length stated n count =
     unless (nat_eq stated count) read.Count (
     unless (nat_le (16 + 2 * count + 32) n) read.Short (
     unless (nat_le n (16 + 2 * count + 32)) read.Trailing (Ok tt)))

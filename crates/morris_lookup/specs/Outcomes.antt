@@ -3,7 +3,7 @@ use Rattle.std.specs.Prelude.{◌≡◌, ◌≢◌, ◌⊎◌, ⊤, suc, Bool, t
 use Rattle.std.specs.List.{Contains}
 use Rattle.morris_board.specs.Boards.{Shape}
 use Rattle.morris_board.specs.Positions.{Sides}
-use Rattle.morris_moves.specs.declared.step.Move.{Move}
+use Rattle.morris_moves.specs.declared.game_move.Move.{Move}
 use Rattle.morris_moves.specs.Rules.{moves_of, result_of}
 use Rattle.morris_pairs.specs.declared.value.Value.{Value}
 use Rattle.morris_pairs.specs.declared.value.Value.TheVariants.{Draw, Won, Lost}
@@ -15,10 +15,10 @@ use Rattle.morris_lookup.specs.FileSets.{Files, missing_file, said_of, IsExactAt
 
 -- What a position's value is for the player who has just moved to it: where the player to move has
 -- lost in d plies, a win in d + 1, and so on.
-abbrev pub turned : Value → Value
-turned Draw = Draw
-turned (Won depth) = Lost (suc depth)
-turned (Lost depth) = Won (suc depth)
+abbrev pub value_for_mover : Value → Value
+value_for_mover Draw = Draw
+value_for_mover (Won depth) = Lost (suc depth)
+value_for_mover (Lost depth) = Won (suc depth)
 
 -- The outcome of a move is the value of the position after it, of which the file is open, turned
 -- round: the one that the files say, where their bytes are known; and the one in the game, where
@@ -26,7 +26,7 @@ turned (Lost depth) = Won (suc depth)
 pub record IsOutcome (board : Shape) (files : Files) (s : Sides) (outcome : Outcome) : Type 0 where
   pub next : Value
   pub found : missing_file files (result_of s outcome.step) ≡ None
-  pub turned_round : outcome.value ≡ turned next
+  pub for_mover : outcome.value ≡ value_for_mover next
   pub said : (value : Value) → said_of board files (result_of s outcome.step) ≡ Some value → next ≡ value
   pub exact : IsExactAt board files (result_of s outcome.step) → IsValue board (result_of s outcome.step) next
 
@@ -66,8 +66,8 @@ best_among value outcomes = map (λ o. o.step) (filter (λ o. same_value o.value
 abbrev pub ArePicked : Shape → Files → Sides → Value → List Move → List Move → Type 0
 ArePicked board files s value [] best = best ≡ []
 ArePicked board files s value (m ∷ moves) best =
-    (IfSome (said_of board files (result_of s m)) (λ next. turned next ≢ value) × ArePicked board files s value moves best)
-    ⊎ ((rest : List Move) × (best ≡ m ∷ rest) × IfSome (said_of board files (result_of s m)) (λ next. turned next ≡ value) × ArePicked board files s value moves rest)
+    (IfSome (said_of board files (result_of s m)) (λ next. value_for_mover next ≢ value) × ArePicked board files s value moves best)
+    ⊎ ((rest : List Move) × (best ≡ m ∷ rest) × IfSome (said_of board files (result_of s m)) (λ next. value_for_mover next ≡ value) × ArePicked board files s value moves rest)
 
 -- The list has the legal moves that lead to the value of the position, which is the one that the
 -- files say, where they say one.

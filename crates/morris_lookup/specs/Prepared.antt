@@ -10,8 +10,8 @@ use Rattle.morris_lookup.specs.Representatives.{representatives_of}
 
 -- where a set is led: its class and the least symmetry that leads it to the representative, which
 -- is below 16, in one number
-unfoldable pub lead_of : Shape → ℕ → ℕ
-lead_of board set = 16 * class_of board set + symmetry_of board set
+unfoldable pub class_word_of : Shape → ℕ → ℕ
+class_word_of board set = 16 * class_of board set + symmetry_of board set
 
 -- The words have eleven sections. The first seven have the representatives of sets of 3, 4, .. 9
 -- points, in ascending order of their masks; the last four have a word for each set of 3, 4, 5 and
@@ -40,8 +40,8 @@ pub record IsPrepared (board : Shape) (words : List ℕ) : Type 0 where
   pub whole : prepared_count board ≤ length words
   pub listed : (k i : ℕ) → k < 7 → i < length (representatives_of board (3 + k))
       → slice_index words (start_of board k + i) ≡ slice_index (representatives_of board (3 + k)) i
-  pub led : (k set : ℕ) → k < 4 → set < 2 ^ board.points → count_of set ≡ 3 + k
-      → slice_index words (start_of board (7 + k) + rank_of (members set)) ≡ lead_of board set
+  pub canonical_form : (k set : ℕ) → k < 4 → set < 2 ^ board.points → count_of set ≡ 3 + k
+      → slice_index words (start_of board (7 + k) + rank_of (members set)) ≡ class_word_of board set
 
 -- What is tested of words where they are used: they begin with the first word of the board, and
 -- there are as many as the thirteenth of them says, or more.
@@ -63,17 +63,17 @@ pub record IsPreparedTo (board : Shape) (k end : ℕ) (words : List ℕ) : Type 
   pub within : end ≤ length words
   pub listed : (j i : ℕ) → j < k → j < 7 → i < length (representatives_of board (3 + j))
       → slice_index words (start_of board j + i) ≡ slice_index (representatives_of board (3 + j)) i
-  pub led : (j set : ℕ) → 7 + j < k → set < 2 ^ board.points → count_of set ≡ 3 + j
-      → slice_index words (start_of board (7 + j) + rank_of (members set)) ≡ lead_of board set
+  pub canonical_form : (j set : ℕ) → 7 + j < k → set < 2 ^ board.points → count_of set ≡ 3 + j
+      → slice_index words (start_of board (7 + j) + rank_of (members set)) ≡ class_word_of board set
 
 -- each set of `count` points is led, at its rank from `start` on
-abbrev pub AreLed : Shape → ℕ → ℕ → List ℕ → Type 0
-AreLed board count start words = (set : ℕ) → set < 2 ^ board.points → count_of set ≡ count
-    → slice_index words (start + rank_of (members set)) ≡ lead_of board set
+abbrev pub HaveClassWords : Shape → ℕ → ℕ → List ℕ → Type 0
+HaveClassWords board count start words = (set : ℕ) → set < 2 ^ board.points → count_of set ≡ count
+    → slice_index words (start + rank_of (members set)) ≡ class_word_of board set
 
 -- each set with this representative is led to this class
-abbrev pub AreLedTo : Shape → ℕ → ℕ → ℕ → List ℕ → Type 0
-AreLedTo board start class representative words = (set : ℕ) → set < 2 ^ board.points → representative_of board set ≡ representative
+abbrev pub HaveClassWord : Shape → ℕ → ℕ → ℕ → List ℕ → Type 0
+HaveClassWord board start class representative words = (set : ℕ) → set < 2 ^ board.points → representative_of board set ≡ representative
     → slice_index words (start + rank_of (members set)) ≡ 16 * class + symmetry_of board set
 
 -- the words of the sets of `count` points with another one are the old ones
@@ -88,5 +88,5 @@ StayBefore place words old = (i : ℕ) → i < place → slice_index words i ≡
 
 -- Where there are words at all, they have one for each set of `count` points, at its rank: where it
 -- is led.
-abbrev pub LeadAll : Shape → ℕ → List ℕ → Type 0
-LeadAll board count leads = 0 < length leads → (choose board.points count ≤ length leads) × AreLed board count 0 leads
+abbrev pub AreClassWords : Shape → ℕ → List ℕ → Type 0
+AreClassWords board count class_words = 0 < length class_words → (choose board.points count ≤ length class_words) × HaveClassWords board count 0 class_words

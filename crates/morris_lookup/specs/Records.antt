@@ -1,6 +1,6 @@
 -- Values and moves as records of numbers.
 use Rattle.std.specs.Prelude.{unwrap_or}
-use Rattle.morris_moves.specs.declared.step.Move.{Move}
+use Rattle.morris_moves.specs.declared.game_move.Move.{Move}
 use Rattle.morris_pairs.specs.declared.value.Value.{Value}
 use Rattle.morris_pairs.specs.declared.value.Value.TheVariants.{Draw, Won, Lost}
 use Rattle.morris_lookup.specs.declared.records.ValueRecord.{ValueRecord}

@@ -10,12 +10,12 @@ representatives_of board count = filter (is_representative board count) (range_w
 
 -- The masks of a board with n points fall into stretches: those of a stretch have the same points
 -- above the least third of the board. So many each has.
-abbrev pub stretch_size : ℕ → ℕ
-stretch_size n = 2 ^ (n / 3)
+abbrev pub chunk_size : ℕ → ℕ
+chunk_size n = 2 ^ (n / 3)
 
 -- the representatives in a stretch
 unfoldable pub representatives_at : Shape → ℕ → ℕ → ℕ → List ℕ
-representatives_at board n count number = filter (is_representative board count) (range_with_len (number * stretch_size n) (stretch_size n))
+representatives_at board n count number = filter (is_representative board count) (range_with_len (number * chunk_size n) (chunk_size n))
 
 -- A list stands in words from `start` on, as far as there are words, and all of it ends at `end`.
 -- Before it the words are the old ones.

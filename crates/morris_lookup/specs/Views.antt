@@ -6,7 +6,7 @@ use Rattle.std.specs.Result.{result_map_both}
 use Rattle.morris_board.specs.Boards.{Shape}
 use Rattle.morris_board.specs.Positions.{Sides}
 use Rattle.morris_index.specs.Pairs.{Counts, pair_of}
-use Rattle.morris_moves.specs.declared.step.Move.{Move}
+use Rattle.morris_moves.specs.declared.game_move.Move.{Move}
 use Rattle.morris_moves.specs.Rules.{moves_of, result_of}
 use Rattle.morris_pairs.specs.declared.layout.Layout.{Layout}
 use Rattle.morris_pairs.specs.declared.value.Value.{Value}
@@ -15,7 +15,7 @@ use Rattle.morris_pairs.specs.Codes.{value_in}
 use Rattle.morris_pairs.specs.Entries.{entry_index}
 use Rattle.morris_pairs.specs.Tables.{Table, IsTable}
 use Rattle.morris_pairs.specs.TableFiles.{file_of}
-use Rattle.morris_lookup.specs.Opening.{framed_in}
+use Rattle.morris_lookup.specs.Opening.{check_file}
 use Rattle.morris_lookup.specs.Lookups.{code_at}
 use Rattle.morris_lookup.specs.declared.fault.ViewFault.{ViewFault}
 use Rattle.morris_lookup.specs.declared.fault.ViewFault.TheVariants as fault
@@ -42,7 +42,7 @@ file_of_pair files c = find (names_pair c) files
 -- right: the value of the code that stands at its entry
 unfoldable pub value_of_bytes : Shape → Sides → List ℕ → Result Value ViewFault
 value_of_bytes board s bytes =
-    result_map_both (λ (kind : Layout × Counts). value_in (code_at bytes (entry_index board board.points kind.0 kind.1 s))) fault.File (framed_in board bytes)
+    result_map_both (λ (kind : Layout × Counts). value_in (code_at bytes (entry_index board board.points kind.0 kind.1 s))) fault.File (check_file board bytes)
 
 -- ---- many files
 
@@ -60,11 +60,11 @@ abbrev pub is_by_classes : List ℕ → Bool
 is_by_classes bytes = nat_eq (slice_index bytes 4) 2
 
 -- the words serve a file, or files: where one is by classes, they are prepared ones
-abbrev pub Serves : Shape → List ℕ → List ℕ → Type 0
-Serves board words bytes = is_by_classes bytes ≡ true → IsPrepared board words
+abbrev pub HasWordsFor : Shape → List ℕ → List ℕ → Type 0
+HasWordsFor board words bytes = is_by_classes bytes ≡ true → IsPrepared board words
 
-abbrev pub ServeAll : Shape → List ℕ → List (List ℕ) → Type 0
-ServeAll board words files = (bytes : List ℕ) → Contains files bytes → Serves board words bytes
+abbrev pub HasWordsForAll : Shape → List ℕ → List (List ℕ) → Type 0
+HasWordsForAll board words files = (bytes : List ℕ) → Contains files bytes → HasWordsFor board words bytes
 
 -- whether the value of a position is read in a file by classes
 abbrev pub needs_words : List (List ℕ) → Sides → Bool

@@ -1,11 +1,11 @@
 //! The best moves of a position, and the line of best play.
 ghost use Rattle.std.specs.Prelude.{◌≡◌, ◌<◌, length, IfOk, IfErr, IfSome, IfNone};
 ghost use Rattle.std.specs.List.{Contains};
-ghost use Rattle.morris_moves.specs.declared.step.Move.{Move};
+ghost use Rattle.morris_moves.specs.declared.game_move.Move.{Move};
 ghost use Rattle.morris_moves.specs.Rules.{moves_of};
 ghost use Rattle.morris_probe.specs.Best.{AreBest};
 ghost use Rattle.morris_lookup.specs.FileSets.{AreExactAfter, IsExactAt};
-ghost use Rattle.morris_lookup.specs.Lines.{IsBestStep, Falls};
+ghost use Rattle.morris_lookup.specs.Lines.{IsBestStep, IsPlyLess};
 ghost use Rattle.morris_lookup.specs.Outcomes.{AreSaidBest, IsBestRefusal};
 
 use crate::fault::LookFault;
@@ -14,8 +14,8 @@ use crate::storage::Storage;
 use crate::tables::Tables;
 use morris_board::board::Geometry;
 use morris_board::position::Position;
+use morris_moves::game_move::Move;
 use morris_moves::rules::play;
-use morris_moves::step::Move;
 use std::alloc::Global;
 
 /// The best moves of a position, in order of from, then to, then taken: those that lead to the
@@ -57,7 +57,7 @@ pub fn next<B: Geometry, S: Storage>(
     position: &Position<B>,
 ) -> Result<Option<(Move, Position<B>)>, LookFault<B>>
     ensures best { IsExactAt B.shape tables.now position.now → AreExactAfter B.shape tables.now position.now → IfOk result (λ next. IfSome next (IsBestStep B.shape position.now)) }
-    ensures falls { IsExactAt B.shape tables.now position.now → AreExactAfter B.shape tables.now position.now → IfOk result (λ next. IfSome next (λ step. Falls B.shape position.now step.1)) }
+    ensures falls { IsExactAt B.shape tables.now position.now → AreExactAfter B.shape tables.now position.now → IfOk result (λ next. IfSome next (λ step. IsPlyLess B.shape position.now step.1)) }
     ensures end { IsExactAt B.shape tables.now position.now → AreExactAfter B.shape tables.now position.now → IfOk result (λ next. IfNone next ((m : Move) → Contains (moves_of B.shape position.now) m → ⊥)) }
     ensures refused { IfErr result (IsBestRefusal B.shape tables.now position.now) }
 {

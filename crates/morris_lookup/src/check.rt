@@ -4,7 +4,7 @@ ghost use Rattle.morris_index.specs.Pairs.{IsPair};
 ghost use Rattle.morris_pairs.specs.Entries.{entry_count};
 ghost use Rattle.morris_lookup.specs.Checking.{header_said};
 
-use crate::framing::{bear_out, heading_of};
+use crate::file_checks::{check_length, read_header};
 use morris_board::board::Geometry;
 use morris_index::class_sizes::class_size;
 use morris_index::pair::Pair;
@@ -41,9 +41,9 @@ pub struct HeaderRecord {
 pub fn check<B: Geometry>(bytes: &[u8]) -> Result<HeaderRecord, ReadFault>
     ensures { result ≡ header_said B.shape bytes.now }
 {
-    let (layout, pair, stated, length) = heading_of::<B, &[u8]>(&bytes)?;
+    let (layout, pair, stated, length) = read_header::<B, &[u8]>(&bytes)?;
     let entries = count_of(pair, layout);
-    bear_out(stated, length, entries)?;
+    check_length(stated, length, entries)?;
     Ok(HeaderRecord {
         version: version_of(layout),
         board: B::ID,

@@ -3,7 +3,7 @@ ghost use Rattle.std.specs.Prelude.{◌≡◌, ◌<◌, ◌^◌, true, length};
 ghost use Rattle.morris_board.specs.Sets.{count_of};
 ghost use Rattle.morris_index.specs.Pairs.{IsHalf, is_of};
 ghost use Rattle.morris_index.specs.ClassPairs.{class_half_size, class_half_index, class_size_of, class_index_of};
-ghost use Rattle.morris_lookup.specs.Prepared.{LeadAll};
+ghost use Rattle.morris_lookup.specs.Prepared.{AreClassWords};
 ghost use Rattle.morris_lookup.specs.Representatives.{representatives_of};
 
 use crate::classes::class_by;
@@ -36,23 +36,23 @@ pub(crate) fn class_index<B: Geometry>(
     pair: Pair<B>,
     greater: &[u32],
     lesser: &[u32],
-    greater_leads: &[u32],
-    lesser_leads: &[u32],
+    greater_class_words: &[u32],
+    lesser_class_words: &[u32],
     position: &Position<B>,
 ) -> u64
     requires of { is_of pair position.now ≡ true }
     requires greater { length greater.now < 2 ^ 32 }
     requires lesser { length lesser.now < 2 ^ 32 }
     ensures value { greater.now ≡ representatives_of B.shape pair.greater → lesser.now ≡ representatives_of B.shape pair.lesser
-        → LeadAll B.shape pair.greater greater_leads.now → LeadAll B.shape pair.lesser lesser_leads.now → result ≡ class_index_of B.shape B.POINTS pair position.now }
+        → AreClassWords B.shape pair.greater greater_class_words.now → AreClassWords B.shape pair.lesser lesser_class_words.now → result ≡ class_index_of B.shape B.POINTS pair position.now }
     ensures few { result < 2 ^ 55 }
 {
     let most = pair.greater();
     if position.own().count() == most {
-        class_half_index(greater, greater_leads, position)
+        class_half_index(greater, greater_class_words, position)
     } else {
         class_half_size::<B>(greater, most, pair.lesser())
-            + class_half_index(lesser, lesser_leads, position)
+            + class_half_index(lesser, lesser_class_words, position)
     }
 }
 
@@ -68,14 +68,14 @@ fn class_half_size<B: Geometry>(list: &[u32], own: u8, other: u8) -> u64
 
 /// The number of a position's entry among those with as many stones of either player, by the list
 /// of the representatives for those of the player to move and by words that may lead these.
-fn class_half_index<B: Geometry>(list: &[u32], leads: &[u32], position: &Position<B>) -> u64
+fn class_half_index<B: Geometry>(list: &[u32], class_words: &[u32], position: &Position<B>) -> u64
     requires few { length list.now < 2 ^ 32 }
-    ensures value { list.now ≡ representatives_of B.shape (count_of position.now.own) → LeadAll B.shape (count_of position.now.own) leads.now → result ≡ class_half_index B.shape B.POINTS position.now }
+    ensures value { list.now ≡ representatives_of B.shape (count_of position.now.own) → AreClassWords B.shape (count_of position.now.own) class_words.now → result ≡ class_half_index B.shape B.POINTS position.now }
     ensures few { result < 2 ^ 54 }
 {
     let (own, other) = position.counts();
-    let (class, symmetry) = class_by::<B>(list, leads, position.own());
+    let (class, symmetry) = class_by::<B>(list, class_words, position.own());
     let choices = binomial(B::POINTS - own, other);
-    let led = position.image(symmetry);
-    class as u64 * choices + rank_outside(led.other(), led.own())
+    let canonical_form = position.image(symmetry);
+    class as u64 * choices + rank_outside(canonical_form.other(), canonical_form.own())
 }

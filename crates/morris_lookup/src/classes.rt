@@ -2,7 +2,7 @@
 ghost use Rattle.std.specs.Prelude.{◌≡◌, ◌/◌, ◌%◌, ◌≤◌, ◌<◌, ◌^◌, length, slice_index, IfNone, IfSome};
 ghost use Rattle.morris_board.specs.Sets.{count_of};
 ghost use Rattle.morris_index.specs.Classes.{symmetry_of, representative_of, class_of};
-ghost use Rattle.morris_lookup.specs.Prepared.{LeadAll};
+ghost use Rattle.morris_lookup.specs.Prepared.{AreClassWords};
 ghost use Rattle.morris_lookup.specs.Representatives.{representatives_of};
 
 use morris_board::board::Geometry;
@@ -15,19 +15,19 @@ use morris_index::ranks::rank;
 /// board.
 pub(crate) fn class_by<B: Geometry>(
     representatives: &[u32],
-    leads: &[u32],
+    class_words: &[u32],
     set: Points,
 ) -> (usize, u8)
     requires within { set < 2 ^ B.POINTS }
     requires most { count_of set ≤ 9 }
     requires few { length representatives.now < 2 ^ 32 }
-    ensures class { representatives.now ≡ representatives_of B.shape (count_of set) → LeadAll B.shape (count_of set) leads.now → result.0 ≡ class_of B.shape set }
-    ensures symmetry { LeadAll B.shape (count_of set) leads.now → result.1 ≡ symmetry_of B.shape set }
+    ensures class { representatives.now ≡ representatives_of B.shape (count_of set) → AreClassWords B.shape (count_of set) class_words.now → result.0 ≡ class_of B.shape set }
+    ensures symmetry { AreClassWords B.shape (count_of set) class_words.now → result.1 ≡ symmetry_of B.shape set }
     ensures few { result.0 < 2 ^ 32 }
     ensures one { result.1 < B.SYMMETRIES }
 {
-    if !leads.is_empty()
-        && let Some((class, symmetry)) = lead_at(leads, rank(set))
+    if !class_words.is_empty()
+        && let Some((class, symmetry)) = class_word_at(class_words, rank(set))
         && symmetry < B::SYMMETRIES
     {
         return (class, symmetry);
@@ -39,15 +39,15 @@ pub(crate) fn class_by<B: Geometry>(
 }
 
 /// The class and the symmetry that the word at a place says, where there is one.
-pub(crate) fn lead_at(words: &[u32], place: u64) -> Option<(usize, u8)>
-    ensures class { IfSome result (λ led. led.0 ≡ slice_index words.now place / 16) }
-    ensures symmetry { IfSome result (λ led. led.1 ≡ slice_index words.now place % 16) }
-    ensures few { IfSome result (λ led. led.0 < 2 ^ 28) }
+pub(crate) fn class_word_at(words: &[u32], place: u64) -> Option<(usize, u8)>
+    ensures class { IfSome result (λ found. found.0 ≡ slice_index words.now place / 16) }
+    ensures symmetry { IfSome result (λ found. found.1 ≡ slice_index words.now place % 16) }
+    ensures few { IfSome result (λ found. found.0 < 2 ^ 28) }
     ensures inside { IfSome result (λ _. place < length words.now) }
     ensures outside { IfNone result (length words.now ≤ place) }
 {
-    let lead = words.get(place as usize)?;
-    Some(((*lead / 16) as usize, (*lead % 16) as u8))
+    let class_word = words.get(place as usize)?;
+    Some(((*class_word / 16) as usize, (*class_word % 16) as u8))
 }
 
 /// The image of a set with the least mask, and the least symmetry that leads to it.

@@ -4,12 +4,12 @@
 pub mod best;
 pub mod check;
 mod class_entries;
+mod class_words;
 mod classes;
 pub mod codes;
 pub mod digest;
 pub mod fault;
-mod framing;
-mod leads;
+mod file_checks;
 pub mod listing;
 pub mod masks;
 mod numbering;

@@ -3,17 +3,17 @@ ghost use Rattle.std.specs.Prelude.{◌≡◌, ◌<◌, ◌≤◌, length, take,
 ghost use Rattle.std.specs.List.{Contains};
 ghost use Rattle.morris_moves.specs.Rules.{moves_of, result_of};
 ghost use Rattle.morris_lookup.specs.Views.{contents};
-ghost use Rattle.morris_lookup.specs.Views.{ServeAll, AreExactAfter, IsExactAt};
+ghost use Rattle.morris_lookup.specs.Views.{HasWordsForAll, AreExactAfter, IsExactAt};
 ghost use Rattle.morris_lookup.specs.Listing.{outcome_of, outcomes_said, AreExactOutcomes, IsExactOutcome};
 
 use crate::fault::ViewFault;
-use crate::outcomes::turned;
+use crate::outcomes::value_for_mover;
 use crate::records::{MoveRecord, move_record};
 use crate::views::{View, value};
 use morris_board::board::Geometry;
 use morris_board::position::Position;
+use morris_moves::game_move::Move;
 use morris_moves::rules::{moves, play};
-use morris_moves::step::Move;
 
 /// Writes the legal moves of a position to the beginning of `out`, in order of from, then to, then
 /// taken, each with the value that it leads to for the player who makes it: won in `d` plies where
@@ -35,11 +35,11 @@ pub fn outcomes<B: Geometry>(
 ) -> Result<usize, ViewFault>
     ensures count { IfOk result (λ count. count ≡ length (moves_of B.shape position.now)) }
     ensures room { length out.old < length (moves_of B.shape position.now) → result ≡ Err ViewFault.Room }
-    ensures said { ServeAll B.shape words.now (contents files.now) → length (moves_of B.shape position.now) ≤ length out.old
+    ensures said { HasWordsForAll B.shape words.now (contents files.now) → length (moves_of B.shape position.now) ≤ length out.old
         → IfOk result (λ count. outcomes_said B.shape (contents files.now) position.now (moves_of B.shape position.now) ≡ Ok (take count out.new)) }
-    ensures exact { ServeAll B.shape words.now (contents files.now) → AreExactAfter B.shape (contents files.now) position.now
+    ensures exact { HasWordsForAll B.shape words.now (contents files.now) → AreExactAfter B.shape (contents files.now) position.now
         → IfOk result (λ count. AreExactOutcomes B.shape position.now (moves_of B.shape position.now) (take count out.new)) }
-    ensures refused { ServeAll B.shape words.now (contents files.now) → length (moves_of B.shape position.now) ≤ length out.old
+    ensures refused { HasWordsForAll B.shape words.now (contents files.now) → length (moves_of B.shape position.now) ≤ length out.old
         → IfErr result (λ fault. outcomes_said B.shape (contents files.now) position.now (moves_of B.shape position.now) ≡ Err fault) }
 {
     if out.len() < move_count(position) {
@@ -71,9 +71,9 @@ fn outcome_of<B: Geometry>(
     m: Move,
 ) -> Result<MoveRecord, ViewFault>
     requires { Contains (moves_of B.shape position.now) m }
-    ensures said { ServeAll B.shape words.now (contents files.now) → result ≡ outcome_of B.shape (contents files.now) position.now m }
-    ensures exact { ServeAll B.shape words.now (contents files.now) → IsExactAt B.shape (contents files.now) (result_of position.now m) → IfOk result (IsExactOutcome B.shape position.now m) }
+    ensures said { HasWordsForAll B.shape words.now (contents files.now) → result ≡ outcome_of B.shape (contents files.now) position.now m }
+    ensures exact { HasWordsForAll B.shape words.now (contents files.now) → IsExactAt B.shape (contents files.now) (result_of position.now m) → IfOk result (IsExactOutcome B.shape position.now m) }
 {
     let next = value(files, words, &play(position, m))?;
-    Ok(move_record(m, turned(next)))
+    Ok(move_record(m, value_for_mover(next)))
 }

@@ -23,7 +23,7 @@ pub fn position_of<B: Geometry>(own: u32, other: u32) -> Result<Position<B>, Mas
         return Err(MaskFault::OffBoard);
     }
     let (own, other) = (Points::from_mask(own), Points::from_mask(other));
-    match own.common(other).first() {
+    match own.intersection(other).first() {
         Some(_) => Err(MaskFault::Overlap),
         None => match Position::new(own, other) {
             Ok(position) => {

@@ -2,10 +2,10 @@
 ghost use Rattle.std.specs.Prelude.{◌≡◌, ◌<◌, ◌≤◌, ◌^◌, true, IfOk, IsOk};
 ghost use Rattle.morris_index.specs.Pairs.{IsPair, is_of};
 ghost use Rattle.morris_pairs.specs.Entries.{entry_count, entry_index};
-ghost use Rattle.morris_lookup.specs.Numberings.{Serve, ServeFor, Fits};
+ghost use Rattle.morris_lookup.specs.Numberings.{AreListsFor, FitsNumbering, Fits};
 
 use crate::class_entries::{class_index, class_size};
-use crate::leads::leads;
+use crate::class_words::class_words;
 use crate::representatives::representatives;
 use morris_board::board::Geometry;
 use morris_board::position::Position;
@@ -23,15 +23,15 @@ pub(crate) struct Numbering<'a, B: Geometry> {
     pub(crate) greater: &'a [u32],
     pub(crate) lesser: &'a [u32],
     /// Words that lead the sets of either number of points, or nothing.
-    pub(crate) greater_leads: &'a [u32],
-    pub(crate) lesser_leads: &'a [u32],
+    pub(crate) greater_class_words: &'a [u32],
+    pub(crate) lesser_class_words: &'a [u32],
 }
 
 impl<B: Geometry> Numbering<'_, B> {
     /// How many entries there are.
     pub(crate) fn count(&self) -> u64
         requires { Fits self.now }
-        ensures value { ServeFor B.shape self.now → result ≡ entry_count B.shape B.POINTS self.now.layout self.now.pair }
+        ensures value { FitsNumbering B.shape self.now → result ≡ entry_count B.shape B.POINTS self.now.layout self.now.pair }
         ensures few { result < 2 ^ 54 }
     {
         match self.layout {
@@ -44,8 +44,8 @@ impl<B: Geometry> Numbering<'_, B> {
     pub(crate) fn entry(&self, position: &Position<B>) -> u64
         requires fits { Fits self.now }
         requires of { is_of self.now.pair position.now ≡ true }
-        ensures value { ServeFor B.shape self.now → result ≡ entry_index B.shape B.POINTS self.now.layout self.now.pair position.now }
-        ensures below { ServeFor B.shape self.now → result < entry_count B.shape B.POINTS self.now.layout self.now.pair }
+        ensures value { FitsNumbering B.shape self.now → result ≡ entry_index B.shape B.POINTS self.now.layout self.now.pair position.now }
+        ensures below { FitsNumbering B.shape self.now → result < entry_count B.shape B.POINTS self.now.layout self.now.pair }
         ensures few { result < 2 ^ 55 }
     {
         // The proof learns the rules of a position where its stones are read, and how many entries
@@ -58,8 +58,8 @@ impl<B: Geometry> Numbering<'_, B> {
                 self.pair,
                 self.greater,
                 self.lesser,
-                self.greater_leads,
-                self.lesser_leads,
+                self.greater_class_words,
+                self.lesser_class_words,
                 position,
             ),
         }
@@ -78,7 +78,7 @@ pub(crate) fn lists_of<B: Geometry>(
     layout: Layout,
     pair: Pair<B>,
 ) -> Result<(Vec<u32>, Vec<u32>, Vec<u32>, Vec<u32>), AllocError>
-    ensures serve { IfOk result (λ lists. Serve B.shape layout pair lists.0.items lists.1.items lists.2.items lists.3.items) }
+    ensures lists_fit { IfOk result (λ lists. AreListsFor B.shape layout pair lists.0.items lists.1.items lists.2.items lists.3.items) }
     ensures full { layout ≡ Layout.Full → IsOk result }
 {
     match layout {
@@ -95,9 +95,9 @@ pub(crate) fn lists_of<B: Geometry>(
             } else {
                 representatives::<B>(alloc, pair.lesser())?
             };
-            let greater_leads = leads::<B>(alloc, pair.greater(), greater.as_slice())?;
-            let lesser_leads = leads::<B>(alloc, pair.lesser(), lesser.as_slice())?;
-            Ok((greater, lesser, greater_leads, lesser_leads))
+            let greater_class_words = class_words::<B>(alloc, pair.greater(), greater.as_slice())?;
+            let lesser_class_words = class_words::<B>(alloc, pair.lesser(), lesser.as_slice())?;
+            Ok((greater, lesser, greater_class_words, lesser_class_words))
         }
     }
 }

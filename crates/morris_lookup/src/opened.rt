@@ -6,13 +6,13 @@ ghost use Rattle.morris_pairs.specs.Entries.{entry_count, entry_index};
 ghost use Rattle.morris_pairs.specs.Raws.{IsRaw};
 ghost use Rattle.morris_pairs.specs.Tables.{Table};
 ghost use Rattle.morris_pairs.specs.TableFiles.{file_of};
-ghost use Rattle.morris_lookup.specs.Opening.{IsFramingRefusal, IsOpeningRefusal, IsOpen, Opens};
-ghost use Rattle.morris_lookup.specs.FileCodes.{IsPiece};
+ghost use Rattle.morris_lookup.specs.Opening.{IsCheckRefusal, IsOpeningRefusal, IsOpen, Opens};
+ghost use Rattle.morris_lookup.specs.FileCodes.{IsChunk};
 ghost use Rattle.morris_lookup.specs.Lookups.{code_for, depth_of, IsExactFile};
-ghost use Rattle.morris_lookup.specs.Numberings.{Fits, ServeFor};
+ghost use Rattle.morris_lookup.specs.Numberings.{Fits, FitsNumbering};
 
 use crate::fault::OpenFault;
-use crate::framing::{bear_out, heading_of};
+use crate::file_checks::{check_length, read_header};
 use crate::numbering::{Numbering, lists_of};
 use crate::storage::Storage;
 use morris_board::board::Geometry;
@@ -38,13 +38,13 @@ pub struct Opened<B: Geometry, S: Storage> {
     greater: Vec<u32>,
     lesser: Vec<u32>,
     /// Words that lead the sets of either number of points, where these are few.
-    greater_leads: Vec<u32>,
-    lesser_leads: Vec<u32>,
+    greater_class_words: Vec<u32>,
+    lesser_class_words: Vec<u32>,
     storage: S,
 }
 
 impl<B: Geometry, S: Storage> Model for Opened<B, S> {
-    ghost use Rattle.morris_lookup.specs.Numberings.{Serve};
+    ghost use Rattle.morris_lookup.specs.Numberings.{AreListsFor};
     ghost use Rattle.morris_lookup.specs.Opening.{OpenFile, open_file, IsOpen};
 
     ghost Value = { OpenFile };
@@ -52,7 +52,7 @@ impl<B: Geometry, S: Storage> Model for Opened<B, S> {
     ghost view = { λ file. open_file file.layout file.pair (S.contents file.storage) (S.held file.storage) };
 
     ghost invariant = { λ file. IsOpen B.shape (open_file file.layout file.pair (S.contents file.storage) (S.held file.storage))
-        × Serve B.shape file.layout file.pair file.greater.items file.lesser.items file.greater_leads.items file.lesser_leads.items };
+        × AreListsFor B.shape file.layout file.pair file.greater.items file.lesser.items file.greater_class_words.items file.lesser_class_words.items };
 }
 
 impl<B: Geometry, S: Storage> Opened<B, S> {
@@ -92,12 +92,12 @@ impl<B: Geometry, S: Storage> Opened<B, S> {
         ensures more { IfOk result (λ end. first < end) }
         ensures fits { IfOk result (λ end. 2 * (end - first) ≤ length out.old) }
         ensures within { IfOk result (λ end. end ≤ entry_count B.shape B.POINTS self.now.layout self.now.pair) }
-        ensures read { IfSome self.now.held (λ bytes. IfOk result (λ end. IsPiece bytes first end out.new)) }
+        ensures read { IfSome self.now.held (λ bytes. IfOk result (λ end. IsChunk bytes first end out.new)) }
         ensures sure { IsSome self.now.bytes → IsOk result }
     {
         let many = (self.count() - first).min((out.len() / 2) as u64);
-        let piece = &mut out[..2 * many as usize];
-        self.storage.read_at(HEADER as u64 + 2 * first, piece)?;
+        let chunk = &mut out[..2 * many as usize];
+        self.storage.read_at(HEADER as u64 + 2 * first, chunk)?;
         Ok(first + many)
     }
 
@@ -105,7 +105,7 @@ impl<B: Geometry, S: Storage> Opened<B, S> {
     fn numbering(&self) -> Numbering<'_, B>
         ensures layout { result.layout ≡ self.now.layout }
         ensures pair { result.pair ≡ self.now.pair }
-        ensures serve { ServeFor B.shape result }
+        ensures lists_fit { FitsNumbering B.shape result }
         ensures fits { Fits result }
     {
         Numbering {
@@ -113,8 +113,8 @@ impl<B: Geometry, S: Storage> Opened<B, S> {
             pair: self.pair,
             greater: self.greater.as_slice(),
             lesser: self.lesser.as_slice(),
-            greater_leads: self.greater_leads.as_slice(),
-            lesser_leads: self.lesser_leads.as_slice(),
+            greater_class_words: self.greater_class_words.as_slice(),
+            lesser_class_words: self.lesser_class_words.as_slice(),
         }
     }
 
@@ -171,7 +171,7 @@ impl<B: Geometry, S: Storage + Drop> Opened<B, S> {
         // The file of any table of the pair is opened, in either layout.
         ensures complete { (t : Table) → IsRaw B.shape t → t.pair ≡ pair → S.contents storage ≡ Some (file_of B.shape t) → Opens t.layout result }
     {
-        let file = frame(alloc, storage)?;
+        let file = open_by_header(alloc, storage)?;
         if file.pair() != pair {
             return Err(OpenFault::Pair);
         }
@@ -183,35 +183,35 @@ impl<B: Geometry, S: Storage + Drop> Opened<B, S> {
 ///
 /// # Errors
 /// Those of [`Opened::open`], but for another pair.
-fn frame<B: Geometry, S: Storage + Drop>(
+fn open_by_header<B: Geometry, S: Storage + Drop>(
     alloc: Global,
     storage: S,
 ) -> Result<Opened<B, S>, ReadFault>
     ensures bytes { IfOk result (λ file. file.bytes ≡ S.contents storage) }
     ensures held { IfOk result (λ file. file.held ≡ S.held storage) }
     ensures right { IfOk result (IsOpen B.shape) }
-    ensures refused { IfErr result (λ fault. IfSome (S.contents storage) (λ bytes. IsFramingRefusal B.shape bytes fault)) }
+    ensures refused { IfErr result (λ fault. IfSome (S.contents storage) (λ bytes. IsCheckRefusal B.shape bytes fault)) }
 {
-    let (layout, pair, entries, length) = heading_of::<B, S>(&storage)?;
+    let (layout, pair, entries, length) = read_header::<B, S>(&storage)?;
     // The proof learns the pair's invariant where a number is asked for.
     let _ = pair.greater();
-    let (greater, lesser, greater_leads, lesser_leads) = lists_of(alloc, layout, pair)?;
+    let (greater, lesser, greater_class_words, lesser_class_words) = lists_of(alloc, layout, pair)?;
     let numbering = Numbering {
         layout,
         pair,
         greater: greater.as_slice(),
         lesser: lesser.as_slice(),
-        greater_leads: greater_leads.as_slice(),
-        lesser_leads: lesser_leads.as_slice(),
+        greater_class_words: greater_class_words.as_slice(),
+        lesser_class_words: lesser_class_words.as_slice(),
     };
-    bear_out(entries, length, numbering.count())?;
+    check_length(entries, length, numbering.count())?;
     Ok(Opened {
         layout,
         pair,
         greater,
         lesser,
-        greater_leads,
-        lesser_leads,
+        greater_class_words,
+        lesser_class_words,
         storage,
     })
 }

@@ -4,15 +4,15 @@ ghost use Rattle.std.specs.List.{Contains};
 ghost use Rattle.morris_moves.specs.Rules.{moves_of, result_of};
 ghost use Rattle.morris_lookup.specs.FileSets.{IsValueRefusal};
 ghost use Rattle.morris_lookup.specs.Lookups.{depth_of};
-ghost use Rattle.morris_lookup.specs.Outcomes.{best_among, same_value, turned, IsOutcome, IsOutcomeRefusal};
+ghost use Rattle.morris_lookup.specs.Outcomes.{best_among, same_value, value_for_mover, IsOutcome, IsOutcomeRefusal};
 
 use crate::fault::LookFault;
 use crate::storage::Storage;
 use crate::tables::Tables;
 use morris_board::board::Geometry;
 use morris_board::position::Position;
+use morris_moves::game_move::Move;
 use morris_moves::rules::{moves, play};
-use morris_moves::step::Move;
 use morris_pairs::value::Value;
 use std::alloc::{AllocError, Global};
 
@@ -40,7 +40,7 @@ pub fn outcomes<B: Geometry, S: Storage>(
     position: &Position<B>,
 ) -> Result<Vec<Outcome>, LookFault<B>>
     ensures listed { IfOk result (λ outcomes. map (λ outcome. outcome.step) outcomes.items ≡ moves_of B.shape position.now) }
-    ensures told { IfOk result (λ outcomes. (outcome : Outcome) → Contains outcomes.items outcome → IsOutcome B.shape tables.now position.now outcome) }
+    ensures reported { IfOk result (λ outcomes. (outcome : Outcome) → Contains outcomes.items outcome → IsOutcome B.shape tables.now position.now outcome) }
     ensures refused { IfErr result (IsOutcomeRefusal B.shape tables.now position.now) }
 {
     let mut outcomes = Vec::with_capacity(alloc, moves(position).count())?;
@@ -62,20 +62,20 @@ fn outcome_of<B: Geometry, S: Storage>(
 ) -> Result<Outcome, LookFault<B>>
     requires { Contains (moves_of B.shape position.now) m }
     ensures step { IfOk result (λ outcome. outcome.step ≡ m) }
-    ensures told { IfOk result (IsOutcome B.shape tables.now position.now) }
+    ensures reported { IfOk result (IsOutcome B.shape tables.now position.now) }
     ensures refused { IfErr result (IsValueRefusal B.shape tables.now (result_of position.now m)) }
 {
     let next = tables.value(&play(position, m))?;
     Ok(Outcome {
         step: m,
-        value: turned(next),
+        value: value_for_mover(next),
     })
 }
 
 /// What a position's value is for the player who has just moved to it.
-pub fn turned(value: Value) -> Value
+pub fn value_for_mover(value: Value) -> Value
     requires { depth_of value ≤ 65534 }
-    ensures { result ≡ turned value }
+    ensures { result ≡ value_for_mover value }
 {
     match value {
         Value::Draw => Value::Draw,

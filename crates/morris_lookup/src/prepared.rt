@@ -1,12 +1,12 @@
 //! Prepared words: what the classes of sets of points need, in memory that the caller hands in.
 ghost use Rattle.std.specs.Prelude.{◌≡◌, ◌<◌, ◌≤◌, ◌^◌, true, length, IsOk, IfOk, IfSome, IfNone, MatchResult};
 ghost use Rattle.morris_index.specs.Binomials.{choose};
-ghost use Rattle.morris_lookup.specs.Numberings.{Serve};
-ghost use Rattle.morris_lookup.specs.Prepared.{prepared_count, section_at, start_of, looks_prepared, IsPrepared, IsPreparedTo, LeadAll};
+ghost use Rattle.morris_lookup.specs.Numberings.{AreListsFor};
+ghost use Rattle.morris_lookup.specs.Prepared.{prepared_count, section_at, start_of, looks_prepared, IsPrepared, IsPreparedTo, AreClassWords};
 ghost use Rattle.morris_lookup.specs.Representatives.{representatives_of};
 
+use crate::class_words::write_class_words;
 use crate::fault::ViewFault;
-use crate::leads::lead_sets;
 use crate::representatives::{list, put};
 use morris_board::board::Geometry;
 use morris_index::binomials::binomial;
@@ -17,7 +17,7 @@ use morris_pairs::layout::Layout;
 const FIRST: u32 = 0x4D57_4300;
 
 /// How many words stand before the sections.
-const HEADING: usize = 13;
+const PREFACE: usize = 13;
 
 /// The least number of points of sets whose classes are prepared, and how many numbers there are.
 const LEAST: u8 = 3;
@@ -25,7 +25,7 @@ const LEAST: u8 = 3;
 const NUMBERS: u8 = 7;
 
 /// For how many of these numbers, from the least on, each set has a word.
-const LED: u8 = 4;
+const SIZES_WITH_WORDS: u8 = 4;
 
 /// How many prepared words there are. It goes through the sets of points of the board, and passes
 /// over most of those that aren't representatives.
@@ -33,7 +33,7 @@ pub fn prepared_count<B: Geometry>() -> usize
     ensures { result ≡ prepared_count B.shape }
 {
     let mut end = list_all::<B>(&mut []);
-    for k in 0..LED {
+    for k in 0..SIZES_WITH_WORDS {
         end += set_count::<B>(LEAST + k);
     }
     end
@@ -60,7 +60,7 @@ pub fn prepare<B: Geometry>(words: &mut [u32]) -> Option<usize>
     if words.len() < listed {
         return None;
     }
-    lead_all::<B>(words, listed)
+    write_all::<B>(words, listed)
 }
 
 /// Fills the heading and the sections with representatives, as far as there is room, and answers
@@ -71,8 +71,8 @@ fn list_all<B: Geometry>(words: &mut [u32]) -> usize
     ensures prepared { result ≤ length words.old → IsPreparedTo B.shape 7 result words.new }
 {
     put(words, 0, FIRST + u32::from(B::ID));
-    put(words, 1, HEADING as u32);
-    let mut end = HEADING;
+    put(words, 1, PREFACE as u32);
+    let mut end = PREFACE;
     for k in 0..NUMBERS {
         end = list::<B>(LEAST + k, words, end);
         put(words, usize::from(k) + 2, end as u32);
@@ -82,21 +82,21 @@ fn list_all<B: Geometry>(words: &mut [u32]) -> usize
 
 /// Fills the sections with a word for each set behind those that end at `listed`, and answers where
 /// they end; `None` where there is too little room for them.
-fn lead_all<B: Geometry>(words: &mut [u32], listed: usize) -> Option<usize>
+fn write_all<B: Geometry>(words: &mut [u32], listed: usize) -> Option<usize>
     requires prepared { IsPreparedTo B.shape 7 listed words.old }
     requires few { listed ≤ 2 ^ 27 }
     ensures prepared { IfSome result (λ end. IsPreparedTo B.shape 11 end words.new) }
     ensures room { IfNone result (length words.old < start_of B.shape 11) }
 {
     let mut end = listed;
-    for k in 0..LED {
+    for k in 0..SIZES_WITH_WORDS {
         let place = usize::from(k) + 1;
         let (first, last) = (words[place] as usize, words[place + 1] as usize);
         let sets = set_count::<B>(LEAST + k);
         if words.len() - end < sets {
             return None;
         }
-        lead_sets::<B>(LEAST + k, words, first, last - first, end);
+        write_class_words::<B>(LEAST + k, words, first, last - first, end);
         end += sets;
         words[place + 8] = end as u32;
     }
@@ -114,10 +114,10 @@ fn section<B: Geometry>(words: &[u32], number: usize) -> Result<&[u32], ViewFaul
     ensures tested { IfOk result (λ _. looks_prepared B.shape words.now ≡ true) }
     ensures few { IfOk result (λ section. length section.now < 2 ^ 32) }
 {
-    if words.len() < HEADING || words[0] != FIRST + u32::from(B::ID) {
+    if words.len() < PREFACE || words[0] != FIRST + u32::from(B::ID) {
         return Err(ViewFault::Words);
     }
-    if words.len() < words[HEADING - 1] as usize {
+    if words.len() < words[PREFACE - 1] as usize {
         return Err(ViewFault::Words);
     }
     let (start, end) = (words[number + 1] as usize, words[number + 2] as usize);
@@ -138,18 +138,18 @@ fn lists_for<B: Geometry>(words: &[u32], count: u8) -> Result<(&[u32], &[u32]), 
     requires least { 3 ≤ count }
     requires most { count ≤ 9 }
     ensures list { IsPrepared B.shape words.now → IfOk result (λ lists. lists.0.now ≡ representatives_of B.shape count) }
-    ensures leads { IsPrepared B.shape words.now → IfOk result (λ lists. LeadAll B.shape count lists.1.now) }
+    ensures class_words { IsPrepared B.shape words.now → IfOk result (λ lists. AreClassWords B.shape count lists.1.now) }
     ensures ready { IsPrepared B.shape words.now → IsOk result }
     ensures tested { IfOk result (λ _. looks_prepared B.shape words.now ≡ true) }
     ensures few { IfOk result (λ lists. length lists.0.now < 2 ^ 32) }
 {
     let number = usize::from(count - LEAST);
     let list = section::<B>(words, number)?;
-    if count >= LEAST + LED {
+    if count >= LEAST + SIZES_WITH_WORDS {
         return Ok((list, &words[..0]));
     }
-    let leads = section::<B>(words, number + usize::from(NUMBERS))?;
-    Ok((list, leads))
+    let class_words = section::<B>(words, number + usize::from(NUMBERS))?;
+    Ok((list, class_words))
 }
 
 /// What the entries of a pair go by in a layout, in words that may be prepared ones: the lists of
@@ -164,7 +164,7 @@ pub(crate) fn lists_in<B: Geometry>(
     layout: Layout,
     pair: Pair<B>,
 ) -> Result<((&[u32], &[u32]), (&[u32], &[u32])), ViewFault>
-    ensures serve { (layout ≡ Layout.Classes → IsPrepared B.shape words.now) → IfOk result (λ lists. Serve B.shape layout pair lists.0.0.now lists.1.0.now lists.0.1.now lists.1.1.now) }
+    ensures lists_fit { (layout ≡ Layout.Classes → IsPrepared B.shape words.now) → IfOk result (λ lists. AreListsFor B.shape layout pair lists.0.0.now lists.1.0.now lists.0.1.now lists.1.1.now) }
     ensures ready { (layout ≡ Layout.Classes → IsPrepared B.shape words.now) → IsOk result }
     ensures tested { IfOk result (λ _. layout ≡ Layout.Classes → looks_prepared B.shape words.now ≡ true) }
     ensures few { IfOk result (λ lists. (length lists.0.0.now < 2 ^ 32) × (length lists.1.0.now < 2 ^ 32)) }

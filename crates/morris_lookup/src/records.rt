@@ -2,7 +2,7 @@
 ghost use Rattle.std.specs.Prelude.{◌≡◌, ◌<◌, ◌≤◌, IfSome};
 ghost use Rattle.morris_lookup.specs.Records.{value_record, move_record};
 
-use morris_moves::step::Move;
+use morris_moves::game_move::Move;
 use morris_pairs::value::Value;
 
 /// A value as two numbers.

@@ -1,8 +1,8 @@
 //! The lists of the representatives of classes. Stretches of masks that have none are passed over.
 ghost use Rattle.std.specs.Prelude.{◌≡◌, ℕ, ◌+◌, ◌-◌, ◌*◌, ◌/◌, ◌<◌, ◌≤◌, ◌^◌, true, false, slice_set, IsTrue, IfOk};
-ghost use Rattle.morris_board.specs.Sets.{is_within};
+ghost use Rattle.morris_board.specs.Sets.{is_subset};
 ghost use Rattle.morris_index.specs.Classes.{is_representative};
-ghost use Rattle.morris_lookup.specs.Representatives.{representatives_of, representatives_at, stretch_size, AreListed};
+ghost use Rattle.morris_lookup.specs.Representatives.{representatives_of, representatives_at, chunk_size, AreListed};
 
 use morris_board::board::Geometry;
 use morris_board::points::Points;
@@ -34,21 +34,21 @@ pub(crate) fn list<B: Geometry>(count: u8, words: &mut [u32], start: usize) -> u
     ensures few { result ≤ start + 2 ^ 24 }
 {
     let mut end = start;
-    for number in 0..stretch_count::<B>() {
-        end = list_stretch::<B>(count, number, words, end);
+    for number in 0..chunk_count::<B>() {
+        end = list_chunk::<B>(count, number, words, end);
     }
     end
 }
 
 /// Lists those of a stretch from `start` on, as [`list`] does. A stretch has none where its first
 /// set, which is a part of all others, and its last one, which has all of them, show that.
-fn list_stretch<B: Geometry>(count: u8, number: u32, words: &mut [u32], start: usize) -> usize
+fn list_chunk<B: Geometry>(count: u8, number: u32, words: &mut [u32], start: usize) -> usize
     requires number { number < 2 ^ (B.POINTS - B.POINTS / 3) }
     requires few { start ≤ 2 ^ 28 }
     ensures { AreListed (representatives_at B.shape B.POINTS count number) start result words.new words.old }
 {
-    let first = stretch_start::<B>(number);
-    let after = first + stretch_size::<B>();
+    let first = chunk_start::<B>(number);
+    let after = first + chunk_size::<B>();
     if is_passed_over::<B>(
         count,
         Points::from_mask(first),
@@ -81,7 +81,7 @@ pub(crate) fn put(words: &mut [u32], place: usize, word: u32)
 fn is_passed_over<B: Geometry>(count: u8, first: Points, last: Points) -> bool
     requires first { first < 2 ^ B.POINTS }
     requires last { last < 2 ^ B.POINTS }
-    ensures { IsTrue result → (set : ℕ) → set < 2 ^ B.POINTS → is_within first set ≡ true → is_within set last ≡ true → is_representative B.shape count set ≡ false }
+    ensures { IsTrue result → (set : ℕ) → set < 2 ^ B.POINTS → is_subset first set ≡ true → is_subset set last ≡ true → is_representative B.shape count set ≡ false }
 {
     if count < first.count() || last.count() < count {
         return true;
@@ -95,8 +95,8 @@ fn is_passed_over<B: Geometry>(count: u8, first: Points, last: Points) -> bool
 }
 
 /// How many masks a stretch has.
-fn stretch_size<B: Geometry>() -> u32
-    ensures value { result ≡ stretch_size B.POINTS }
+fn chunk_size<B: Geometry>() -> u32
+    ensures value { result ≡ chunk_size B.POINTS }
     ensures few { result ≤ 2 ^ 8 }
     ensures some { 0 < result }
 {
@@ -104,7 +104,7 @@ fn stretch_size<B: Geometry>() -> u32
 }
 
 /// How many stretches there are.
-fn stretch_count<B: Geometry>() -> u32
+fn chunk_count<B: Geometry>() -> u32
     ensures value { result ≡ 2 ^ (B.POINTS - B.POINTS / 3) }
     ensures few { result ≤ 2 ^ 24 }
 {
@@ -112,11 +112,11 @@ fn stretch_count<B: Geometry>() -> u32
 }
 
 /// The first mask of a stretch.
-fn stretch_start<B: Geometry>(number: u32) -> u32
+fn chunk_start<B: Geometry>(number: u32) -> u32
     requires { number < 2 ^ (B.POINTS - B.POINTS / 3) }
-    ensures value { result ≡ number * stretch_size B.POINTS }
-    ensures within { result + stretch_size B.POINTS ≤ 2 ^ B.POINTS }
+    ensures value { result ≡ number * chunk_size B.POINTS }
+    ensures within { result + chunk_size B.POINTS ≤ 2 ^ B.POINTS }
     ensures few { 2 ^ B.POINTS ≤ 2 ^ 24 }
 {
-    number * stretch_size::<B>()
+    number * chunk_size::<B>()
 }

@@ -5,11 +5,11 @@ ghost use Rattle.morris_index.specs.Pairs.{is_of};
 ghost use Rattle.morris_pairs.specs.Codes.{IsValue};
 ghost use Rattle.morris_lookup.specs.Lookups.{depth_of};
 ghost use Rattle.morris_lookup.specs.Prepared.{looks_prepared};
-ghost use Rattle.morris_lookup.specs.Views.{contents, file_of_pair, names_pair, value_said, value_of_bytes, is_by_classes, needs_words, Serves, ServeAll, IsExactAt};
+ghost use Rattle.morris_lookup.specs.Views.{contents, file_of_pair, names_pair, value_said, value_of_bytes, is_by_classes, needs_words, HasWordsFor, HasWordsForAll, IsExactAt};
 
 use crate::codes::code_in;
 use crate::fault::ViewFault;
-use crate::framing::{bear_out, heading_of};
+use crate::file_checks::{check_length, read_header};
 use crate::numbering::Numbering;
 use crate::prepared::lists_in;
 use morris_board::board::Geometry;
@@ -44,8 +44,8 @@ pub fn value<B: Geometry>(
     words: &[u32],
     position: &Position<B>,
 ) -> Result<Value, ViewFault>
-    ensures said { ServeAll B.shape words.now (contents files.now) → result ≡ value_said B.shape (contents files.now) position.now }
-    ensures exact { ServeAll B.shape words.now (contents files.now) → IsExactAt B.shape (contents files.now) position.now → IfOk result (IsValue B.shape position.now) }
+    ensures said { HasWordsForAll B.shape words.now (contents files.now) → result ≡ value_said B.shape (contents files.now) position.now }
+    ensures exact { HasWordsForAll B.shape words.now (contents files.now) → IsExactAt B.shape (contents files.now) position.now → IfOk result (IsValue B.shape position.now) }
     ensures unready { IfOk result (λ _. needs_words (contents files.now) position.now ≡ true → looks_prepared B.shape words.now ≡ true) }
     ensures few { IfOk result (λ value. depth_of value ≤ 65534) }
 {
@@ -76,21 +76,21 @@ fn value_of_file<B: Geometry>(
 ) -> Result<Value, ViewFault>
     requires of { is_of pair position.now ≡ true }
     requires named { names_pair pair bytes.now ≡ true }
-    ensures said { Serves B.shape words.now bytes.now → result ≡ value_of_bytes B.shape position.now bytes.now }
+    ensures said { HasWordsFor B.shape words.now bytes.now → result ≡ value_of_bytes B.shape position.now bytes.now }
     ensures unready { IfOk result (λ _. is_by_classes bytes.now ≡ true → looks_prepared B.shape words.now ≡ true) }
     ensures few { IfOk result (λ value. depth_of value ≤ 65534) }
 {
-    let (layout, _, entries, length) = heading_of::<B, &[u8]>(&bytes)?;
+    let (layout, _, entries, length) = read_header::<B, &[u8]>(&bytes)?;
     let (greater, lesser) = lists_in(words, layout, pair)?;
     let numbering = Numbering {
         layout,
         pair,
         greater: greater.0,
         lesser: lesser.0,
-        greater_leads: greater.1,
-        lesser_leads: lesser.1,
+        greater_class_words: greater.1,
+        lesser_class_words: lesser.1,
     };
-    bear_out(entries, length, numbering.count())?;
+    check_length(entries, length, numbering.count())?;
     let place = HEADER / 2 + numbering.entry(position) as usize;
     if bytes.len() < 2 * place + 2 {
         // The entry lies in the file where the words are prepared ones.

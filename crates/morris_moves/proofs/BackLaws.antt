@@ -4,16 +4,16 @@ use Rattle.std.proofs.Common.{◌≡◌, ◌≢◌, ℕ, ◌<◌, ◌≤◌, Boo
 use Rattle.std.proofs.lemmas.Bool.{cases_Bool, cases_eq, cases_lt, eq-eqb, ne_eqb, lt-ltb, le-ltb, both_ways, and_parts, and_from, or_parts, or_right, not-true, false_from_ne_true}
 use Rattle.morris_board.specs.Sets.{has, count_of, with_point, without_point}
 use Rattle.morris_board.specs.Boards.{Shape}
-use Rattle.morris_board.specs.Positions.{Sides, sides, IsApart, IsPosition, is_sized, made}
+use Rattle.morris_board.specs.Positions.{Sides, sides, IsApart, IsPosition, is_sized, check_sides}
 use Rattle.morris_board.proofs.PointsLaws.{same_points, has-none}
 use Rattle.morris_board.proofs.SetLaws.{point_lt, lt_from_points, is_adjacent-back}
 use Rattle.morris_board.proofs.PositionLaws.{own_count, other_count, sized_from}
-use Rattle.morris_moves.specs.declared.step.Move.{Move}
-use Rattle.morris_moves.specs.Rules.{in_mill, closes, moved, is_vacant, goes, reach, move, is_legal, left_of, result_of}
-use Rattle.morris_moves.specs.Backward.{LeadsTo, before, has_come}
+use Rattle.morris_moves.specs.declared.game_move.Move.{Move}
+use Rattle.morris_moves.specs.Rules.{in_mill, closes, move_stone, is_vacant, goes, reach, move, is_legal, left_of, result_of}
+use Rattle.morris_moves.specs.Backward.{LeadsTo, unmove, has_come}
 use Rattle.morris_moves.proofs.MaskLaws.{IsVacancy, IsSteps, reach-has, may_go-vacant}
 use Rattle.morris_moves.proofs.LegalLaws.{listed_move, listed_is_legal, legal_is_listed}
-use Rattle.morris_moves.proofs.ResultLaws.{has-moved, moved_cases, count_of-moved}
+use Rattle.morris_moves.proofs.ResultLaws.{has-move_stone, moved_cases, count_of-move_stone}
 
 -- ---- a stone that goes from a point to another and back
 
@@ -21,25 +21,25 @@ module _ (own u v : ℕ) (start : has own u ≡ true) (end : has own v ≡ false
   differ : u ≢ v
   differ e = both_ways (has own v) end (subst (λ p. has own p ≡ true) e start)
 
-  pub moved_here : has (moved own u v) v ≡ true
-  moved_here = has-moved own u v v ∙ or_right (not (eqb v u) && has own v) (eqb v v) (eq-eqb v v refl)
+  pub moved_here : has (move_stone own u v) v ≡ true
+  moved_here = has-move_stone own u v v ∙ or_right (not (eqb v u) && has own v) (eqb v v) (eq-eqb v v refl)
 
-  pub moved_gone : has (moved own u v) u ≡ false
-  moved_gone = has-moved own u v u ∙ rw (eq-eqb u u refl, ne_eqb u v differ) refl
+  pub moved_gone : has (move_stone own u v) u ≡ false
+  moved_gone = has-move_stone own u v u ∙ rw (eq-eqb u u refl, ne_eqb u v differ) refl
 
-  pub moved_back : moved (moved own u v) v u ≡ own
+  pub moved_back : move_stone (move_stone own u v) v u ≡ own
   moved_back = same_points _ _ each
     where
       plain : (x : Bool) → ((not false && ((not false && x) || false)) || false) ≡ x
       plain true = refl
       plain false = refl
 
-      each : (p : ℕ) → has (moved (moved own u v) v u) p ≡ has own p
-      each p = has-moved (moved own u v) v u p ∙ elim (cases_eq p u) [
+      each : (p : ℕ) → has (move_stone (move_stone own u v) v u) p ≡ has own p
+      each p = has-move_stone (move_stone own u v) v u p ∙ elim (cases_eq p u) [
         | inl e ↦ or_right _ (eqb p u) (eq-eqb p u e) ∙ sym (ap (has own) e ∙ start)
         | inr d ↦ elim (cases_eq p v) [
           | inl e ↦ rw (eq-eqb p v e, ne_eqb p u d) (sym (ap (has own) e ∙ end))
-          | inr f ↦ rw (ne_eqb p v f, ne_eqb p u d, has-moved own u v p, ne_eqb p v f, ne_eqb p u d) (plain (has own p))
+          | inr f ↦ rw (ne_eqb p v f, ne_eqb p u d, has-move_stone own u v p, ne_eqb p v f, ne_eqb p u d) (plain (has own p))
         ]
       ]
 
@@ -56,8 +56,8 @@ module _ (b : Shape) (small : b.points ≤ 24) (q : Sides) (h : IsPosition b q) 
   end_lt : m.to < b.points
   end_lt = point_lt q.other b.points m.to h.stones.other_within end
 
-  pub IsApart-before : IsApart b (before q m)
-  unfolding before
+  pub IsApart-before : IsApart b (unmove q m)
+  unfolding unmove
   IsApart-before = record {
     own_within = lt_from_points _ b.points (λ p e. elim (moved_cases q.other m.to m.from p e) [
       | inl stays ↦ point_lt q.other b.points p h.stones.other_within stays
@@ -70,40 +70,40 @@ module _ (b : Shape) (small : b.points ≤ 24) (q : Sides) (h : IsPosition b q) 
     ];
   }
 
-  pub count_of-before_own : count_of (before q m).own ≡ count_of q.other
-  unfolding before
+  pub count_of-before_own : count_of (unmove q m).own ≡ count_of q.other
+  unfolding unmove
   count_of-before_own =
-      count_of-moved q.other m.to m.from (omega (arith, end_lt)) (omega (arith, start)) end (vacant_parts q m.from vacant).1
+      count_of-move_stone q.other m.to m.from (omega (arith, end_lt)) (omega (arith, start)) end (vacant_parts q m.from vacant).1
 
-  pub count_of-before_other : count_of (before q m).other ≡ count_of q.own
-  unfolding before
+  pub count_of-before_other : count_of (unmove q m).other ≡ count_of q.own
+  unfolding unmove
   count_of-before_other = refl
 
-  pub is_sized-before : 3 ≤ count_of q.own → is_sized (before q m) ≡ true
+  pub is_sized-before : 3 ≤ count_of q.own → is_sized (unmove q m) ≡ true
   is_sized-before enough =
       let own = own_count q h.sized in
       let other = other_count q h.sized in
-      sized_from (before q m) (omega (arith, count_of-before_own, other.0)) (omega (arith, count_of-before_own, other.1))
+      sized_from (unmove q m) (omega (arith, count_of-before_own, other.0)) (omega (arith, count_of-before_own, other.1))
       (omega (arith, count_of-before_other, enough)) (omega (arith, count_of-before_other, own.1))
 
-  pub IsPosition-before : 3 ≤ count_of q.own → IsPosition b (before q m)
+  pub IsPosition-before : 3 ≤ count_of q.own → IsPosition b (unmove q m)
   IsPosition-before enough = record { stones = IsApart-before; sized = is_sized-before enough }
 
-  made-before : 3 ≤ count_of q.own → made (before q m) ≡ Ok (before q m)
-  made-before enough = ap (λ x. cond x (Ok (before q m)) (Err (record {}))) (is_sized-before enough)
+  made-before : 3 ≤ count_of q.own → check_sides (unmove q m) ≡ Ok (unmove q m)
+  made-before enough = ap (λ x. cond x (Ok (unmove q m)) (Err (record {}))) (is_sized-before enough)
 
   -- the move leads to q again
-  pub result-before : m.taken ≡ None → result_of (before q m) m ≡ q
-  unfolding before result_of
+  pub result-before : m.taken ≡ None → result_of (unmove q m) m ≡ q
+  unfolding unmove result_of
   result-before quiet =
       ap₂ sides (ap (left_of q.own) quiet) (moved_back q.other m.to m.from end (vacant_parts q m.from vacant).1)
 
 -- what the code makes of the sets that it computes
 pub record IsMade (b : Shape) (q : Sides) (m : Move) (s : Sides) : Type 0 where
   pub apart : IsApart b s
-  pub made_is : made s ≡ Ok (before q m)
-  pub own : count_of (before q m).own ≡ count_of q.other
-  pub leads : result_of (before q m) m ≡ q
+  pub made_is : check_sides s ≡ Ok (unmove q m)
+  pub own : count_of (unmove q m).own ≡ count_of q.other
+  pub leads : result_of (unmove q m) m ≡ q
 
 module _ (b : Shape) (n : ℕ) (e : b.points ≡ n) (few : n ≤ 24) (q : Sides) (h : IsPosition b q) (u v : ℕ) (start : u < n)
     (vacant : is_vacant q u ≡ true) (end : has q.other v ≡ true) where
@@ -116,11 +116,11 @@ module _ (b : Shape) (n : ℕ) (e : b.points ≡ n) (few : n ≤ 24) (q : Sides)
 
   pub is_made : 3 ≤ count_of q.own → (mover rest other own : ℕ) → mover ≡ with_point rest u → rest ≡ without_point other v → other ≡ q.other → own ≡ q.own
       → IsMade b q (move u v None) (sides mover own)
-  unfolding before moved
+  unfolding unmove move_stone
   is_made enough mover rest other own f g i j =
       let small : b.points ≤ 24 = omega arith in
       let low : u < b.points = omega arith in
-      let same : sides mover own ≡ before q (move u v None) = rw (j, f, g, i) refl in
+      let same : sides mover own ≡ unmove q (move u v None) = rw (j, f, g, i) refl in
       subst (IsMade b q (move u v None)) (sym same) (record {
         apart = IsApart-before b small q h (move u v None) low vacant end;
         made_is = made-before b small q h (move u v None) low vacant end enough;
@@ -144,22 +144,22 @@ module _ (b : Shape) (small : b.points ≤ 24) (q : Sides) (h : IsPosition b q) 
     not_there : has q.other u ≡ false
     not_there = (vacant_parts q u vacant).1
 
-    here : has (before q (move u v None)).own u ≡ true
-    unfolding before
+    here : has (unmove q (move u v None)).own u ≡ true
+    unfolding unmove
     here = moved_here q.other v u end not_there
 
-    free : is_vacant (before q (move u v None)) v ≡ true
-    unfolding before
+    free : is_vacant (unmove q (move u v None)) v ≡ true
+    unfolding unmove
     free = rw (moved_gone q.other v u end not_there, end_not_own) refl
 
-    reaches : has (reach b (before q (move u v None)) u) v ≡ goes b (count_of q.other) u v
+    reaches : has (reach b (unmove q (move u v None)) u) v ≡ goes b (count_of q.other) u v
     reaches =
-        reach-has b (before q (move u v None)) u v end_within
-        ∙ (may_go-vacant b (before q (move u v None)) u v free
+        reach-has b (unmove q (move u v None)) u v end_within
+        ∙ (may_go-vacant b (unmove q (move u v None)) u v free
         ∙ ap (λ n. goes b n u v) (count_of-before_own b small q h (move u v None) start vacant end))
 
-    shuts : closes b (before q (move u v None)).own u v ≡ in_mill b q.other v
-    unfolding closes before
+    shuts : closes b (unmove q (move u v None)).own u v ≡ in_mill b q.other v
+    unfolding closes unmove
     shuts = ap (λ s. in_mill b s v) (moved_back q.other v u end not_there)
 
     came : has_come b q (move u v None) ≡ (goes b (count_of q.other) u v && not (in_mill b q.other v))
@@ -215,37 +215,37 @@ module _ (b : Shape) (small : b.points ≤ 24) (q : Sides) (h : IsPosition b q) 
     pub end : has q.other m.to ≡ true
     pub come : has_come b q m ≡ true
     pub enough : 3 ≤ count_of q.own
-    pub value : p ≡ before q m
+    pub value : p ≡ unmove q m
 
   pub come_vacant : (m : Move) → has_come b q m ≡ true → is_vacant q m.from ≡ true
   unfolding has_come
-  come_vacant m e = (and_parts (is_vacant q m.from) (is_legal b (before q m) m) e).0
+  come_vacant m e = (and_parts (is_vacant q m.from) (is_legal b (unmove q m) m) e).0
 
-  come_legal : (m : Move) → has_come b q m ≡ true → is_legal b (before q m) m ≡ true
+  come_legal : (m : Move) → has_come b q m ≡ true → is_legal b (unmove q m) m ≡ true
   unfolding has_come
-  come_legal m e = (and_parts (is_vacant q m.from) (is_legal b (before q m) m) e).1
+  come_legal m e = (and_parts (is_vacant q m.from) (is_legal b (unmove q m) m) e).1
 
   pub leads-before : (m : Move) → m.from < b.points → has q.other m.to ≡ true → m.taken ≡ None → has_come b q m ≡ true → 3 ≤ count_of q.own
-      → LeadsTo b q (before q m) m
+      → LeadsTo b q (unmove q m) m
   leads-before m start end quiet come enough =
       let vacant = come_vacant m come in
       let position = IsPosition-before b small q h m start vacant end enough in
       record {
         position = position;
-        legal = legal_is_listed b (before q m) small position.stones m (come_legal m come);
+        legal = legal_is_listed b (unmove q m) small position.stones m (come_legal m come);
         quiet = quiet;
         result = result-before b small q h m start vacant end quiet;
       }
 
   pub led : (p : Sides) (m : Move) → LeadsTo b q p m → HasLed p m
-  unfolding before has_come result_of
+  unfolding unmove has_come result_of
   led p m l =
       let legal = listed_is_legal b p small l.position.stones m l.legal in
       let is = listed_move b p small l.position.stones m l.legal in
       let own : p.other ≡ q.own = sym (ap (left_of p.other) l.quiet) ∙ ap (λ (s : Sides). s.own) l.result in
-      let other : moved p.own m.from m.to ≡ q.other = ap (λ (s : Sides). s.other) l.result in
-      let value : p ≡ before q m =
-      ap₂ sides (sym (moved_back p.own m.from m.to is.from_own is.to_not_own) ∙ ap (λ s. moved s m.to m.from) other) own in
+      let other : move_stone p.own m.from m.to ≡ q.other = ap (λ (s : Sides). s.other) l.result in
+      let value : p ≡ unmove q m =
+      ap₂ sides (sym (moved_back p.own m.from m.to is.from_own is.to_not_own) ∙ ap (λ s. move_stone s m.to m.from) other) own in
       let not_own : has q.own m.from ≡ false = rw (← own) (l.position.stones.apart m.from is.from_own) in
       let not_other : has q.other m.from ≡ false = rw (← other) (moved_gone p.own m.from m.to is.from_own is.to_not_own) in
       record {

@@ -10,10 +10,10 @@ use Rattle.morris_board.specs.Positions.{Sides, IsPosition}
 use Rattle.morris_board.proofs.PointsLaws.{members-none, has-none, has-set_where}
 use Rattle.morris_board.proofs.SetLaws.{lt_from_points, count_of-below, count_of-part}
 use Rattle.morris_board.proofs.PositionLaws.{other_count}
-use Rattle.morris_moves.specs.declared.step.Move.{Move}
+use Rattle.morris_moves.specs.declared.game_move.Move.{Move}
 use Rattle.morris_moves.specs.Rules.{in_mill, is_vacant, goes, free_stones, move}
-use Rattle.morris_moves.specs.Backward.{LeadsTo, MovePrecedes, before, has_come}
-use Rattle.morris_moves.specs.Listing.{AreVacant, arrived, targets, back, backs_from, backs_left}
+use Rattle.morris_moves.specs.Backward.{LeadsTo, MovePrecedes, unmove, has_come}
+use Rattle.morris_moves.specs.Listing.{AreVacant, stones_to_unmove, targets, back, backs_from, backs_left}
 use Rattle.morris_moves.proofs.ListLaws.{Ascends, Ascends-flat_map, Ascends-map, AllPairs-from_Ascends, Contains-map, Contains-map_cases, Contains-flat_map, Contains-flat_map_cases, length-flat_map_le}
 use Rattle.morris_moves.proofs.SetLaws.{has-member, member-has, Ascends-members}
 use Rattle.morris_moves.proofs.MaskLaws.{IsVacancy}
@@ -29,7 +29,7 @@ pub record IsTarget (b : Shape) (q : Sides) (u v : ℕ) : Type 0 where
   pub steps : goes b (count_of q.other) u v ≡ true
   pub enough : 3 ≤ count_of q.own
 
-arrived-is : (b : Shape) (q : Sides) (v : ℕ) → has (arrived b q) v ≡ true → (3 ≤ count_of q.own) × (has q.other v ≡ true) × (in_mill b q.other v ≡ false)
+arrived-is : (b : Shape) (q : Sides) (v : ℕ) → has (stones_to_unmove b q) v ≡ true → (3 ≤ count_of q.own) × (has q.other v ≡ true) × (in_mill b q.other v ≡ false)
 unfolding free_stones
 arrived-is b q v h = elim (cases_Bool (ltb (count_of q.own) 3)) [
   | inl few ↦ absurd (both_ways _ (has-none v) (rw (arrived-few b q few) at h))
@@ -47,7 +47,7 @@ arrived-is b q v h = elim (cases_Bool (ltb (count_of q.own) 3)) [
     ]
 
 is-arrived : (b : Shape) (q : Sides) (v : ℕ) → v < b.points → 3 ≤ count_of q.own → has q.other v ≡ true → in_mill b q.other v ≡ false
-    → has (arrived b q) v ≡ true
+    → has (stones_to_unmove b q) v ≡ true
 unfolding free_stones
 is-arrived b q v low enough end open_ =
     ap (λ s. has s v) (arrived-enough b q (le-ltb (count_of q.own) 3 enough))
@@ -57,7 +57,7 @@ is-arrived b q v low enough end open_ =
 pub target : (b : Shape) (q : Sides) (u v : ℕ) → has (targets b q u) v ≡ true → IsTarget b q u v
 target b q u v h =
     let parts = and_parts _ _ (sym (targets-has b q u v) ∙ h) in
-    let more = and_parts (has (arrived b q) v) (goes b (count_of q.other) u v) parts.1 in
+    let more = and_parts (has (stones_to_unmove b q) v) (goes b (count_of q.other) u v) parts.1 in
     let is = arrived-is b q v more.0 in
     record { end = is.1; open_ = is.2; steps = more.1; enough = is.0 }
 
@@ -104,7 +104,7 @@ module _ (b : Shape) (small : b.points ≤ 24) (q : Sides) (h : IsPosition b q) 
       let more = and_parts (goes b (count_of q.other) m.from m.to) (not (in_mill b q.other m.to)) parts.1 in
       let end_low : m.to < b.points = end_within b small q h m.to is.end in
       let t = is-target b q m.from m.to end_low (record { end = is.end; open_ = not-true _ more.1; steps = more.0; enough = is.enough }) in
-      let pair : back q m.from m.to ≡ (p, m) = ap₂ (λ (x : Sides) (y : Move). (x, y)) (ap (before q) same ∙ sym is.value) same in
+      let pair : back q m.from m.to ≡ (p, m) = ap₂ (λ (x : Sides) (y : Move). (x, y)) (ap (unmove q) same ∙ sym is.value) same in
       Contains-flat_map (backs_from b q) (members froms) m.from (p, m) (member-has froms m.from (omega (arith, is.start)) start)
       (subst (λ x. Contains (map (back q m.from) (members (targets b q m.from))) x) pair
       (Contains-map (back q m.from) (members (targets b q m.from)) m.to (member-has (targets b q m.from) m.to (omega (arith, end_low)) t)))

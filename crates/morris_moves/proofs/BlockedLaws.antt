@@ -10,8 +10,8 @@ use Rattle.morris_board.specs.Positions.{Sides, IsPosition}
 use Rattle.morris_board.proofs.PointsLaws.{members-none, first_is, set_where-lt}
 use Rattle.morris_board.proofs.SetLaws.{point_lt}
 use Rattle.morris_board.proofs.PositionLaws.{other_count}
-use Rattle.morris_moves.specs.declared.step.Move.{Move}
-use Rattle.morris_moves.specs.Rules.{closes, reach, free_stones, takable, move, moves_to, moves_from, moves_of}
+use Rattle.morris_moves.specs.declared.game_move.Move.{Move}
+use Rattle.morris_moves.specs.Rules.{closes, reach, free_stones, takable_stones, move, moves_to, moves_from, moves_of}
 use Rattle.morris_moves.specs.Values.{is_lost}
 use Rattle.morris_moves.proofs.ListLaws.{all_contained, Contains-head, Contains-map, Contains-flat_map}
 use Rattle.morris_moves.proofs.SetLaws.{has-member, member-has}
@@ -46,8 +46,8 @@ module _ (b : Shape) (s : Sides) where
   stuck_is_lost stuck = ap (list_all (λ (m : Move). false)) (no_moves (members s.own) stuck)
 
   module _ (small : b.points ≤ 24) (h : IsPosition b s) where
-    some_taken : (p : ℕ) × (p < 32) × (has (takable b s.other) p ≡ true)
-    unfolding takable free_stones count_of
+    some_taken : (p : ℕ) × (p < 32) × (has (takable_stones b s.other) p ≡ true)
+    unfolding takable_stones free_stones count_of
     some_taken = elim (cases_Bool (eqb (free_stones b s.other) 0)) [
       | inl none ↦
           rw none (some_point s.other b.points small h.stones.other_within
@@ -61,7 +61,7 @@ module _ (b : Shape) (s : Sides) where
     some_move u v = elim (cases_Bool (closes b s.own u v)) [
       | inl shut ↦
           let t = some_taken in
-          (move u v (Some t.0), rw shut (Contains-map (λ t. move u v (Some t)) (members (takable b s.other)) t.0 (member-has (takable b s.other) t.0 t.1 t.2)))
+          (move u v (Some t.0), rw shut (Contains-map (λ t. move u v (Some t)) (members (takable_stones b s.other)) t.0 (member-has (takable_stones b s.other) t.0 t.1 t.2)))
       | inr open_ ↦ (move u v None, rw open_ (Contains-head (move u v None) []))
     ]
 

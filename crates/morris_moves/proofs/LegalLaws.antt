@@ -8,8 +8,8 @@ use Rattle.morris_board.specs.Sets.{has, members, count_of, set_where}
 use Rattle.morris_board.specs.Boards.{Shape, is_adjacent}
 use Rattle.morris_board.specs.Positions.{Sides, IsApart}
 use Rattle.morris_board.proofs.PointsLaws.{has-set_where, set_where-lt, has-above}
-use Rattle.morris_moves.specs.declared.step.Move.{Move}
-use Rattle.morris_moves.specs.Rules.{in_mill, closes, may_go, reach, free_stones, takable, move, takes_rightly, is_legal, moves_to, moves_from, moves_of}
+use Rattle.morris_moves.specs.declared.game_move.Move.{Move}
+use Rattle.morris_moves.specs.Rules.{in_mill, closes, may_go, reach, free_stones, takable_stones, move, takes_rightly, is_legal, moves_to, moves_from, moves_of}
 use Rattle.morris_moves.proofs.ListLaws.{Contains-head, Contains-cons_cases, Contains-map, Contains-map_cases, Contains-flat_map, Contains-flat_map_cases}
 use Rattle.morris_moves.proofs.SetLaws.{has-member, member-has, point_lt}
 
@@ -48,8 +48,8 @@ free_is_other b other t h =
     let parts = and_parts _ _ (sym (has-set_where b.points (λ t. has other t && not (in_mill b other t)) t) ∙ h) in
     (and_parts _ _ parts.1).0
 
-pub takable_is_other : (b : Shape) (other t : ℕ) → has (takable b other) t ≡ true → has other t ≡ true
-unfolding takable
+pub takable_is_other : (b : Shape) (other t : ℕ) → has (takable_stones b other) t ≡ true → has other t ≡ true
+unfolding takable_stones
 takable_is_other b other t h = elim (cases_Bool (eqb (free_stones b other) 0)) [
   | inl none ↦ rw none at h
   | inr some ↦ free_is_other b other t (rw some at h)
@@ -65,17 +65,17 @@ module _ (b : Shape) (s : Sides) (u v : ℕ) where
       let open_ : closes b s.own u v ≡ false = not-true _ h in
       rw open_ (Contains-head (move u v None) [])
   moves_to_has (Some t) low h =
-      let parts = and_parts (closes b s.own u v) (has (takable b s.other) t) h in
-      let there : Contains (members (takable b s.other)) t = member-has (takable b s.other) t (low t (takable_is_other b s.other t parts.1)) parts.1 in
-      rw parts.0 (Contains-map (λ t. move u v (Some t)) (members (takable b s.other)) t there)
+      let parts = and_parts (closes b s.own u v) (has (takable_stones b s.other) t) h in
+      let there : Contains (members (takable_stones b s.other)) t = member-has (takable_stones b s.other) t (low t (takable_is_other b s.other t parts.1)) parts.1 in
+      rw parts.0 (Contains-map (λ t. move u v (Some t)) (members (takable_stones b s.other)) t there)
 
   pub moves_to_is : (m : Move) → Contains (moves_to b s u v) m → (m.from ≡ u) × (m.to ≡ v) × (takes_rightly b s u v m.taken ≡ true)
   unfolding moves_to
   moves_to_is m c = elim (cases_Bool (closes b s.own u v)) [
     | inl shut ↦
-        let r = Contains-map_cases (λ t. move u v (Some t)) (members (takable b s.other)) m (rw shut at c) in
+        let r = Contains-map_cases (λ t. move u v (Some t)) (members (takable_stones b s.other)) m (rw shut at c) in
         let taken : m.taken ≡ Some r.0 = ap (λ (x : Move). x.taken) (sym r.2) in
-        let takes : has (takable b s.other) r.0 ≡ true = has-member (takable b s.other) r.0 r.1 in
+        let takes : has (takable_stones b s.other) r.0 ≡ true = has-member (takable_stones b s.other) r.0 r.1 in
         (ap (λ (x : Move). x.from) (sym r.2), ap (λ (x : Move). x.to) (sym r.2), rw taken (and_from _ _ shut takes))
     | inr open_ ↦ elim (Contains-cons_cases (move u v None) [] m (rw open_ at c)) [
       | inl e ↦
@@ -175,7 +175,7 @@ pub reach_above : (b : Shape) (s : Sides) (u v : ℕ) → b.points ≤ v → has
 unfolding reach
 reach_above b s u v high = has-above (set_where b.points (may_go b s u)) b.points v (set_where-lt b.points (may_go b s u)) high
 
-pub takable_above : (b : Shape) (s : Sides) (t : ℕ) → IsApart b s → b.points ≤ t → has (takable b s.other) t ≡ false
+pub takable_above : (b : Shape) (s : Sides) (t : ℕ) → IsApart b s → b.points ≤ t → has (takable_stones b s.other) t ≡ false
 takable_above b s t h high =
     false_from_ne_true _ (λ e. both_ways _ (has-above s.other b.points t h.other_within high) (takable_is_other b s.other t e))
 

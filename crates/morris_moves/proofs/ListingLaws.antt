@@ -5,8 +5,8 @@ use Rattle.morris_board.specs.Sets.{has, members, count_of}
 use Rattle.morris_board.specs.Boards.{Shape}
 use Rattle.morris_board.specs.Positions.{Sides}
 use Rattle.morris_board.proofs.PointsLaws.{members-none, has-set_where, same_points}
-use Rattle.morris_moves.specs.Rules.{captures, closes, goes, reach, free_stones, takable, move, moves_to, moves_from, moves_of}
-use Rattle.morris_moves.specs.Listing.{moves_left, arrived, targets, back, backs_from, backs_left}
+use Rattle.morris_moves.specs.Rules.{captures, closes, goes, reach, free_stones, takable_stones, move, moves_to, moves_from, moves_of}
+use Rattle.morris_moves.specs.Listing.{moves_left, stones_to_unmove, targets, back, backs_from, backs_left}
 use Rattle.morris_moves.proofs.MaskLaws.{IsSteps}
 
 module _ (b : Shape) (s : Sides) where
@@ -26,9 +26,9 @@ module _ (b : Shape) (s : Sides) where
   quiet_next froms u tos v takes rest w none e c = rw (none, e, c) refl
 
   pub closing_next : (froms u tos v takes rest w : ℕ) → members takes ≡ [] → members tos ≡ w ∷ members rest → closes b s.own u w ≡ true
-      → moves_left b s froms u tos v takes ≡ moves_left b s froms u rest w (takable b s.other)
+      → moves_left b s froms u tos v takes ≡ moves_left b s froms u rest w (takable_stones b s.other)
   unfolding moves_left moves_to
-  closing_next froms u tos v takes rest w none e c = rw (none, e, c) (append_assoc (captures u w (takable b s.other)) (flat_map (moves_to b s u) (members rest)) (flat_map (moves_from b s) (members froms)))
+  closing_next froms u tos v takes rest w none e c = rw (none, e, c) (append_assoc (captures u w (takable_stones b s.other)) (flat_map (moves_to b s u) (members rest)) (flat_map (moves_from b s) (members froms)))
 
   pub stone_next : (froms u tos v takes rest w : ℕ) → members takes ≡ [] → members tos ≡ [] → members froms ≡ w ∷ members rest
       → moves_left b s froms u tos v takes ≡ moves_left b s rest w (reach b s w) v takes
@@ -42,22 +42,22 @@ module _ (b : Shape) (s : Sides) where
 
 -- ---- moves taken back
 
-pub arrived-few : (b : Shape) (q : Sides) → ltb (count_of q.own) 3 ≡ true → arrived b q ≡ 0
-unfolding arrived
+pub arrived-few : (b : Shape) (q : Sides) → ltb (count_of q.own) 3 ≡ true → stones_to_unmove b q ≡ 0
+unfolding stones_to_unmove
 arrived-few b q few = rw few refl
 
-pub arrived-enough : (b : Shape) (q : Sides) → ltb (count_of q.own) 3 ≡ false → arrived b q ≡ free_stones b q.other
-unfolding arrived
+pub arrived-enough : (b : Shape) (q : Sides) → ltb (count_of q.own) 3 ≡ false → stones_to_unmove b q ≡ free_stones b q.other
+unfolding stones_to_unmove
 arrived-enough b q enough = rw enough refl
 
-pub targets-has : (b : Shape) (q : Sides) (u v : ℕ) → has (targets b q u) v ≡ (ltb v b.points && (has (arrived b q) v && goes b (count_of q.other) u v))
+pub targets-has : (b : Shape) (q : Sides) (u v : ℕ) → has (targets b q u) v ≡ (ltb v b.points && (has (stones_to_unmove b q) v && goes b (count_of q.other) u v))
 unfolding targets
-targets-has b q u v = has-set_where b.points (λ v. has (arrived b q) v && goes b (count_of q.other) u v) v
+targets-has b q u v = has-set_where b.points (λ v. has (stones_to_unmove b q) v && goes b (count_of q.other) u v) v
 
 pub targets-steps : (b : Shape) (q : Sides) (u near r : ℕ) → IsSteps b (count_of q.other) u near
-    → ((p : ℕ) → has r p ≡ (has near p && has (arrived b q) p)) → r ≡ targets b q u
+    → ((p : ℕ) → has r p ≡ (has near p && has (stones_to_unmove b q) p)) → r ≡ targets b q u
 targets-steps b q u near r steps each = same_points r (targets b q u) (λ p.
-    each p ∙ (rw (steps p) (both (ltb p b.points) (goes b (count_of q.other) u p) (has (arrived b q) p)) ∙ sym (targets-has b q u p)))
+    each p ∙ (rw (steps p) (both (ltb p b.points) (goes b (count_of q.other) u p) (has (stones_to_unmove b q) p)) ∙ sym (targets-has b q u p)))
   where
     both : (x y z : Bool) → ((x && y) && z) ≡ (x && (z && y))
     both false y z = refl

@@ -3,7 +3,7 @@
 use Rattle.std.proofs.Common.{◌≡◌, ℕ, ◌^◌, ◌<◌, Bool, true, false, not, ◌&&◌, ◌||◌, eqb, ltb, List, [], ◌∷◌, filter, refl, sym, ap, ◌∙◌, inl, inr}
 use Rattle.std.proofs.lemmas.Bool.{cases_Bool, cases_lt, lt-ltb, and_right, both_ways}
 use Rattle.std.specs.List.{list_any}
-use Rattle.morris_board.specs.Sets.{has, count_of, is_within}
+use Rattle.morris_board.specs.Sets.{has, count_of, is_subset}
 use Rattle.morris_board.specs.Boards.{Shape, is_adjacent, adjacent, mills_of, mills_through}
 use Rattle.morris_board.specs.Positions.{Sides}
 use Rattle.morris_board.proofs.PointsLaws.{same_points, has-set_where, set_where-lt, has-none, has-above}
@@ -18,12 +18,12 @@ any_filter f g (x ∷ xs) = elim (cases_Bool (f x)) [
   | inr h ↦ rw h (any_filter f g xs)
 ]
 
-pub in_mill-lines : (b : Shape) (s t first second : ℕ) → mills_through b t ≡ first ∷ second ∷ [] → (is_within first s || is_within second s) ≡ in_mill b s t
+pub in_mill-lines : (b : Shape) (s t first second : ℕ) → mills_through b t ≡ first ∷ second ∷ [] → (is_subset first s || is_subset second s) ≡ in_mill b s t
 unfolding in_mill mills_through
 in_mill-lines b s t first second e =
-    ap (λ y. is_within first s || y) (sym (or_none (is_within second s)))
-    ∙ ap (list_any (λ m. is_within m s)) (sym e)
-    ∙ any_filter (λ m. has m t) (λ m. is_within m s) (mills_of b)
+    ap (λ y. is_subset first s || y) (sym (or_none (is_subset second s)))
+    ∙ ap (list_any (λ m. is_subset m s)) (sym e)
+    ∙ any_filter (λ m. has m t) (λ m. is_subset m s) (mills_of b)
   where
     or_none : (x : Bool) → (x || false) ≡ x
     or_none true = refl
@@ -91,7 +91,7 @@ reach-lt b n e s u r f = rw (f, ← e) (set_where-lt b.points (may_go b s u))
 -- ---- the stones that stand in none of some mills
 
 abbrev pub IsFree : List ℕ → ℕ → ℕ → Type 0
-IsFree mills other free = (p : ℕ) → has free p ≡ (has other p && not (list_any (λ m. has m p && is_within m other) mills))
+IsFree mills other free = (p : ℕ) → has free p ≡ (has other p && not (list_any (λ m. has m p && is_subset m other) mills))
 
 pub free-all : (b : Shape) (other free : ℕ) → other < 2 ^ b.points → IsFree (mills_of b) other free → free ≡ free_stones b other
 unfolding free_stones in_mill

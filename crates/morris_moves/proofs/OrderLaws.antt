@@ -7,9 +7,9 @@ use Rattle.morris_board.specs.Sets.{members, count_of}
 use Rattle.morris_board.specs.Boards.{Shape}
 use Rattle.morris_board.specs.Positions.{Sides, IsPosition, is_between}
 use Rattle.morris_board.proofs.PointsLaws.{set_where-lt}
-use Rattle.morris_moves.specs.declared.step.Move.{Move}
+use Rattle.morris_moves.specs.declared.game_move.Move.{Move}
 use Rattle.morris_moves.specs.Order.{Precedes}
-use Rattle.morris_moves.specs.Rules.{closes, may_go, reach, takable, move, moves_to, moves_from, moves_of}
+use Rattle.morris_moves.specs.Rules.{closes, may_go, reach, takable_stones, move, moves_to, moves_from, moves_of}
 use Rattle.morris_moves.proofs.ListLaws.{Ascends, Ascends-flat_map, Ascends-map, AllPairs-from_Ascends, Contains-flat_map_cases, length-flat_map_le}
 use Rattle.morris_moves.proofs.SetLaws.{Ascends-members, count_of-below, count_of-part}
 use Rattle.morris_moves.proofs.LegalLaws.{moves_to_is, takable_is_other}
@@ -29,7 +29,7 @@ module _ (b : Shape) (s : Sides) where
   Ascends-moves_to : (u v : ℕ) → Ascends Precedes (moves_to b s u v)
   unfolding moves_to
   Ascends-moves_to u v = elim (cases_Bool (closes b s.own u v)) [
-    | inl shut ↦ rw shut (Ascends-map (λ p q. p < q) Precedes (λ t. move u v (Some t)) (members (takable b s.other)) (Ascends-members (takable b s.other)) (λ t r h. by_taken u v t r h))
+    | inl shut ↦ rw shut (Ascends-map (λ p q. p < q) Precedes (λ t. move u v (Some t)) (members (takable_stones b s.other)) (Ascends-members (takable_stones b s.other)) (λ t r h. by_taken u v t r h))
     | inr open_ ↦ rw open_ ((λ y c. absurd (omega arith)), tt)
   ]
 
@@ -67,9 +67,9 @@ module _ (b : Shape) (s : Sides) (small : b.points ≤ 24) (h : IsPosition b s) 
       let parts = and_parts (is_between 2 (count_of s.own) 9) (is_between 3 (count_of s.other) 9) h.sized in
       leb-true _ _ (and_parts (leb 3 (count_of s.other)) (leb (count_of s.other) 9) parts.1).1
 
-  few_taken : length (members (takable b s.other)) ≤ 9
+  few_taken : length (members (takable_stones b s.other)) ≤ 9
   unfolding count_of
-  few_taken = omega (arith, few_other, count_of-part (takable b s.other) s.other (takable_is_other b s.other))
+  few_taken = omega (arith, few_other, count_of-part (takable_stones b s.other) s.other (takable_is_other b s.other))
 
   few_to : (u v : ℕ) → length (moves_to b s u v) ≤ 9
   unfolding moves_to

@@ -3,29 +3,29 @@ use Rattle.std.proofs.Common.{◌≡◌, ℕ, suc, ◌<◌, ◌≤◌, true, fal
 use Rattle.std.proofs.lemmas.Bool.{eqb-true, and_parts, and_right, or_cases, both_ways, false_from_ne_true}
 use Rattle.morris_board.specs.Sets.{has, count_of, without_point}
 use Rattle.morris_board.specs.Boards.{Shape}
-use Rattle.morris_board.specs.Positions.{Sides, sides, IsApart, IsPosition, is_sized, made}
+use Rattle.morris_board.specs.Positions.{Sides, sides, IsApart, IsPosition, is_sized, check_sides}
 use Rattle.morris_board.proofs.PointsLaws.{has-with, has-without, count_of-with, count_of-without}
 use Rattle.morris_board.proofs.PositionLaws.{own_count, other_count, sized_from}
-use Rattle.morris_moves.specs.declared.step.Move.{Move}
-use Rattle.morris_moves.specs.Rules.{moved, left_of, result_of}
+use Rattle.morris_moves.specs.declared.game_move.Move.{Move}
+use Rattle.morris_moves.specs.Rules.{move_stone, left_of, result_of}
 use Rattle.morris_moves.proofs.SetLaws.{point_lt, lt_from_points}
 use Rattle.morris_moves.proofs.LegalLaws.{IsLegalMove}
 
 -- ---- the two sets that a move leaves
 
-pub has-moved : (own u v p : ℕ) → has (moved own u v) p ≡ ((not (eqb p u) && has own p) || eqb p v)
-unfolding moved
-has-moved own u v p = has-with (without_point own u) v p ∙ ap (λ x. x || eqb p v) (has-without own u p)
+pub has-move_stone : (own u v p : ℕ) → has (move_stone own u v) p ≡ ((not (eqb p u) && has own p) || eqb p v)
+unfolding move_stone
+has-move_stone own u v p = has-with (without_point own u) v p ∙ ap (λ x. x || eqb p v) (has-without own u p)
 
-pub moved_cases : (own u v p : ℕ) → has (moved own u v) p ≡ true → (has own p ≡ true) ⊎ (p ≡ v)
-moved_cases own u v p h = elim (or_cases _ _ (sym (has-moved own u v p) ∙ h)) [
+pub moved_cases : (own u v p : ℕ) → has (move_stone own u v) p ≡ true → (has own p ≡ true) ⊎ (p ≡ v)
+moved_cases own u v p h = elim (or_cases _ _ (sym (has-move_stone own u v p) ∙ h)) [
   | inl stays ↦ inl (and_parts _ _ stays).1
   | inr e ↦ inr (eqb-true p v e)
 ]
 
-pub count_of-moved : (own u v : ℕ) → u < 32 → v < 32 → has own u ≡ true → has own v ≡ false → count_of (moved own u v) ≡ count_of own
-unfolding moved
-count_of-moved own u v low high here none =
+pub count_of-move_stone : (own u v : ℕ) → u < 32 → v < 32 → has own u ≡ true → has own v ≡ false → count_of (move_stone own u v) ≡ count_of own
+unfolding move_stone
+count_of-move_stone own u v low high here none =
     let gone : has (without_point own u) v ≡ false = has-without own u v ∙ ap (λ x. not (eqb v u) && x) none ∙ and_right (not (eqb v u)) false refl in
     count_of-with (without_point own u) v high gone ∙ sym (count_of-without own u low here)
 
@@ -60,7 +60,7 @@ module _ (b : Shape) (s : Sides) (small : b.points ≤ 24) (h : IsPosition b s) 
   -- the side that moved keeps its number of stones
   pub count_of-mover : count_of (result_of s m).other ≡ count_of s.own
   unfolding result_of
-  count_of-mover = count_of-moved s.own m.from m.to (omega (arith, l.from_within)) (omega (arith, l.to_within)) l.from_own l.to_not_own
+  count_of-mover = count_of-move_stone s.own m.from m.to (omega (arith, l.from_within)) (omega (arith, l.to_within)) l.from_own l.to_not_own
 
   -- a quiet move leaves the opponent's, and a capture takes one
   pub count_of-quiet : m.taken ≡ None → count_of (result_of s m).own ≡ count_of s.other
@@ -89,10 +89,10 @@ module _ (b : Shape) (s : Sides) (small : b.points ≤ 24) (h : IsPosition b s) 
   IsPosition-result = record { stones = IsApart-result; sized = is_sized-result }
 
   -- and the code makes it
-  pub made-result : made (result_of s m) ≡ Ok (result_of s m)
+  pub made-result : check_sides (result_of s m) ≡ Ok (result_of s m)
   made-result = ap (λ x. cond x (Ok (result_of s m)) (Err (record {}))) is_sized-result
 
-pub are_result : (s : Sides) (m : Move) (own other mover left : ℕ) → own ≡ s.own → other ≡ s.other → mover ≡ moved own m.from m.to
+pub are_result : (s : Sides) (m : Move) (own other mover left : ℕ) → own ≡ s.own → other ≡ s.other → mover ≡ move_stone own m.from m.to
     → left ≡ left_of other m.taken → sides left mover ≡ result_of s m
 unfolding result_of
 are_result s m own other mover left e f g h = rw (h, f, g, e) refl

@@ -4,17 +4,17 @@ use Rattle.std.proofs.Common.{◌≡◌, ℕ, zero, suc, ◌^◌, ◌<◌, ◌�
 use Rattle.std.proofs.lemmas.Bool.{cases_Bool, cases_eq, ne_eqb, lt-ltb, and_parts}
 use Rattle.std.specs.Option.{option_map}
 use Rattle.std.specs.List.{Contains}
-use Rattle.morris_board.specs.Sets.{has, with_point, without_point, is_within}
+use Rattle.morris_board.specs.Sets.{has, with_point, without_point, is_subset}
 use Rattle.morris_board.specs.Boards.{Shape, mills_of}
 use Rattle.morris_board.specs.Positions.{Sides, IsApart, IsPosition}
 use Rattle.morris_board.specs.Symmetries.{image_of, image_sides, IsSymmetry}
 use Rattle.morris_board.proofs.PointsLaws.{same_test, has-set_where, set_where-lt}
 use Rattle.morris_board.proofs.SetLaws.{point_lt, with_point-lt, without_point-lt}
 use Rattle.morris_board.proofs.ImageLaws.{image_has, image_within, IsOneToOne, one_to_one, IsSymmetry-back, has-image_at, is_image, image_of-none, image_of-with, image_of-without, count_of-image, image_of-undone, IsApart-image, IsPosition-image, image_sides-undone}
-use Rattle.morris_moves.specs.declared.step.Move.{Move}
-use Rattle.morris_moves.specs.declared.search.Within.{Within}
-use Rattle.morris_moves.specs.declared.search.Within.TheVariants.{Lost, Won, Unknown}
-use Rattle.morris_moves.specs.Rules.{in_mill, moved, closes, may_go, reach, free_stones, takable, move, takes_rightly, is_legal, moves_of, left_of, result_of}
+use Rattle.morris_moves.specs.declared.game_move.Move.{Move}
+use Rattle.morris_moves.specs.declared.within.Within.{Within}
+use Rattle.morris_moves.specs.declared.within.Within.TheVariants.{Lost, Won, Unknown}
+use Rattle.morris_moves.specs.Rules.{in_mill, move_stone, closes, may_go, reach, free_stones, takable_stones, move, takes_rightly, is_legal, moves_of, left_of, result_of}
 use Rattle.morris_moves.specs.Images.{IsImage, HaveOneValue}
 use Rattle.morris_moves.specs.Values.{is_lost, is_won, IsOpen, IsLostIn, IsWonIn, AnswersWithin}
 use Rattle.morris_moves.proofs.ListLaws.{all_contained, contained_all, any_contained, contained_any}
@@ -33,9 +33,9 @@ mill_goes : (b : Shape) (f : ℕ → ℕ) → ((m : ℕ) → Contains (mills_of 
     → (s t : ℕ) → t < 32 → in_mill b s t ≡ true → in_mill b (image_of f s) (f t) ≡ true
 unfolding in_mill
 mill_goes b f mills s t low h =
-    let r = any_contained (λ mill. has mill t && is_within mill s) (mills_of b) h in
-    let parts = and_parts (has r.0 t) (is_within r.0 s) r.2 in
-    contained_any (λ mill. has mill (f t) && is_within mill (image_of f s)) (mills_of b) (image_of f r.0) (mills r.0 r.1)
+    let r = any_contained (λ mill. has mill t && is_subset mill s) (mills_of b) h in
+    let parts = and_parts (has r.0 t) (is_subset r.0 s) r.2 in
+    contained_any (λ mill. has mill (f t) && is_subset mill (image_of f s)) (mills_of b) (image_of f r.0) (mills r.0 r.1)
     (rw (image_has f r.0 t low parts.0, image_within f r.0 s parts.1) refl)
 
 module _ (b : Shape) (few : b.points ≤ 24) (f back : ℕ → ℕ) (y : IsSymmetry b f back) where
@@ -51,14 +51,14 @@ module _ (b : Shape) (few : b.points ≤ 24) (f back : ℕ → ℕ) (y : IsSymme
       (subst (λ x. in_mill b x (back (f t)) ≡ true) (image_of-undone b.points few f back one s small) there))
       (λ h. mill_goes b f y.mills s t (omega arith) h)
 
-  moved-lt : (own u v : ℕ) → own < 2 ^ b.points → v < b.points → moved own u v < 2 ^ b.points
-  unfolding moved
-  moved-lt own u v small high = with_point-lt (without_point own u) b.points v (without_point-lt own b.points u small) high
+  move_stone-lt : (own u v : ℕ) → own < 2 ^ b.points → v < b.points → move_stone own u v < 2 ^ b.points
+  unfolding move_stone
+  move_stone-lt own u v small high = with_point-lt (without_point own u) b.points v (without_point-lt own b.points u small) high
 
-  pub moved-image : (own u v : ℕ) → own < 2 ^ b.points → u < b.points → v < b.points
-      → image_of f (moved own u v) ≡ moved (image_of f own) (f u) (f v)
-  unfolding moved
-  moved-image own u v small low high =
+  pub move_stone-image : (own u v : ℕ) → own < 2 ^ b.points → u < b.points → v < b.points
+      → image_of f (move_stone own u v) ≡ move_stone (image_of f own) (f u) (f v)
+  unfolding move_stone
+  move_stone-image own u v small low high =
       image_of-with b.points few f back one (without_point own u) v (without_point-lt own b.points u small) high
       ∙ ap (λ x. with_point x (f v)) (image_of-without b.points few f back one own u small low)
 
@@ -66,8 +66,8 @@ module _ (b : Shape) (few : b.points ≤ 24) (f back : ℕ → ℕ) (y : IsSymme
       → closes b (image_of f own) (f u) (f v) ≡ closes b own u v
   unfolding closes
   closes-image own u v small low high =
-      ap (λ x. in_mill b x (f v)) (sym (moved-image own u v small low high))
-      ∙ in_mill-image (moved own u v) v (moved-lt own u v small high) high
+      ap (λ x. in_mill b x (f v)) (sym (move_stone-image own u v small low high))
+      ∙ in_mill-image (move_stone own u v) v (move_stone-lt own u v small high) high
 
   -- ---- what may be taken
 
@@ -98,9 +98,9 @@ module _ (b : Shape) (few : b.points ≤ 24) (f back : ℕ → ℕ) (y : IsSymme
         ∙ sym (ne_eqb s 0 some)
   ]
 
-  pub takable-image : (other : ℕ) → other < 2 ^ b.points → image_of f (takable b other) ≡ takable b (image_of f other)
-  unfolding takable
-  takable-image other small =
+  pub takable_stones-image : (other : ℕ) → other < 2 ^ b.points → image_of f (takable_stones b other) ≡ takable_stones b (image_of f other)
+  unfolding takable_stones
+  takable_stones-image other small =
       let none : eqb (free_stones b (image_of f other)) 0 ≡ eqb (free_stones b other) 0 =
       ap (λ x. eqb x 0) (sym (free_stones-image other small)) ∙ empty-image (free_stones b other) (free_stones-lt other) in
       rw none (elim (cases_Bool (eqb (free_stones b other) 0)) [
@@ -108,9 +108,9 @@ module _ (b : Shape) (few : b.points ≤ 24) (f back : ℕ → ℕ) (y : IsSymme
         | inr h ↦ rw h (free_stones-image other small)
       ])
 
-  takable-lt : (other : ℕ) → other < 2 ^ b.points → takable b other < 2 ^ b.points
-  unfolding takable
-  takable-lt other small = elim (cases_Bool (eqb (free_stones b other) 0)) [
+  takable_stones-lt : (other : ℕ) → other < 2 ^ b.points → takable_stones b other < 2 ^ b.points
+  unfolding takable_stones
+  takable_stones-lt other small = elim (cases_Bool (eqb (free_stones b other) 0)) [
     | inl h ↦ rw h small
     | inr h ↦ rw h (free_stones-lt other)
   ]
@@ -139,8 +139,8 @@ module _ (b : Shape) (few : b.points ≤ 24) (f back : ℕ → ℕ) (y : IsSymme
     takes_rightly-image u v None low high taken = ap not (closes-image s.own u v h.own_within low high)
     takes_rightly-image u v (Some t) low high taken = rw (
       closes-image s.own u v h.own_within low high,
-      ← takable-image s.other h.other_within,
-      has-image_at b.points few f back one (takable b s.other) (takable-lt s.other h.other_within) t (taken t refl),
+      ← takable_stones-image s.other h.other_within,
+      has-image_at b.points few f back one (takable_stones b s.other) (takable_stones-lt s.other h.other_within) t (taken t refl),
     ) refl
 
     -- a move between points of the board is legal exactly where its image is
@@ -161,7 +161,7 @@ module _ (b : Shape) (few : b.points ≤ 24) (f back : ℕ → ℕ) (y : IsSymme
     pub result_of-image : (m : Move) → m.from < b.points → m.to < b.points → ((r : ℕ) → m.taken ≡ Some r → r < b.points)
         → result_of (image_sides f s) (image_move f m) ≡ image_sides f (result_of s m)
     unfolding result_of
-    result_of-image m low high taken = rw (left_of-image m.taken taken, moved-image s.own m.from m.to h.own_within low high) refl
+    result_of-image m low high taken = rw (left_of-image m.taken taken, move_stone-image s.own m.from m.to h.own_within low high) refl
 
     pub taken_within : (m : Move) → IsLegalMove b s m → (r : ℕ) → m.taken ≡ Some r → r < b.points
     taken_within m l r e = point_lt s.other b.points r h.other_within (l.taken_other r e)

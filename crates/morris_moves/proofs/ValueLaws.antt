@@ -5,8 +5,8 @@ use Rattle.std.proofs.lemmas.Bool.{cases_Bool, cases_eq, cases_lt, both_ways}
 use Rattle.std.specs.List.{list_all, list_any}
 use Rattle.morris_board.specs.Boards.{Shape}
 use Rattle.morris_board.specs.Positions.{Sides}
-use Rattle.morris_moves.specs.declared.search.Within.{Within}
-use Rattle.morris_moves.specs.declared.search.Within.TheVariants.{Lost, Won, Unknown}
+use Rattle.morris_moves.specs.declared.within.Within.{Within}
+use Rattle.morris_moves.specs.declared.within.Within.TheVariants.{Lost, Won, Unknown}
 use Rattle.morris_moves.specs.Rules.{moves_of, result_of}
 use Rattle.morris_moves.specs.Values.{is_lost, is_won, IsOpen, IsLostIn, IsWonIn, IsDraw, AnswersWithin}
 use Rattle.morris_moves.proofs.ListLaws.{all_contained, contained_all, any_contained, contained_any, all_same, any_same}

@@ -3,9 +3,9 @@ use Rattle.std.specs.Prelude.{◌≡◌, Bool, ◌&&◌, None}
 use Rattle.std.specs.List.{Contains}
 use Rattle.morris_board.specs.Boards.{Shape}
 use Rattle.morris_board.specs.Positions.{Sides, sides, IsPosition}
-use Rattle.morris_moves.specs.declared.step.Move.{Move}
+use Rattle.morris_moves.specs.declared.game_move.Move.{Move}
 use Rattle.morris_moves.specs.Order.{Precedes}
-use Rattle.morris_moves.specs.Rules.{moved, is_vacant, is_legal, moves_of, result_of}
+use Rattle.morris_moves.specs.Rules.{move_stone, is_vacant, is_legal, moves_of, result_of}
 
 -- a position, and a quiet legal move of it that leads to q
 pub record LeadsTo (board : Shape) (q p : Sides) (m : Move) : Type 0 where
@@ -16,13 +16,13 @@ pub record LeadsTo (board : Shape) (q p : Sides) (m : Move) : Type 0 where
 
 -- The position before a quiet move that led to q: its stone stands again where it came from, and
 -- the player who made it is to move.
-unfoldable pub before : Sides → Move → Sides
-before q m = sides (moved q.other m.to m.from) q.own
+unfoldable pub unmove : Sides → Move → Sides
+unmove q m = sides (move_stone q.other m.to m.from) q.own
 
 -- whether a quiet move led to q: the point that it left is vacant, and the move is legal in the
 -- position before it
 unfoldable pub has_come : Shape → Sides → Move → Bool
-has_come board q m = is_vacant q m.from && is_legal board (before q m) m
+has_come board q m = is_vacant q m.from && is_legal board (unmove q m) m
 
 -- positions with a move each, in order of these moves
 abbrev pub MovePrecedes : Sides × Move → Sides × Move → Type 0

@@ -4,9 +4,9 @@ use Rattle.std.specs.List.{flat_map}
 use Rattle.morris_board.specs.Sets.{has, members, count_of, set_where}
 use Rattle.morris_board.specs.Boards.{Shape}
 use Rattle.morris_board.specs.Positions.{Sides}
-use Rattle.morris_moves.specs.declared.step.Move.{Move}
+use Rattle.morris_moves.specs.declared.game_move.Move.{Move}
 use Rattle.morris_moves.specs.Rules.{is_vacant, goes, free_stones, move, captures, moves_to, moves_from}
-use Rattle.morris_moves.specs.Backward.{before}
+use Rattle.morris_moves.specs.Backward.{unmove}
 
 -- first the captures from u to v of the stones `takes`, then the moves from u to the points `tos`,
 -- then those of the stones `froms`
@@ -16,16 +16,16 @@ moves_left board s froms u tos v takes =
 
 -- The stones that may have made the move before q, where that was quiet: the opponent's that stand
 -- in no mill, and none where the player to move has too few stones for an opponent.
-unfoldable pub arrived : Shape → Sides → ℕ
-arrived board q = if nat_lt (count_of q.own) 3 then 0 else free_stones board q.other
+unfoldable pub stones_to_unmove : Shape → Sides → ℕ
+stones_to_unmove board q = if nat_lt (count_of q.own) 3 then 0 else free_stones board q.other
 
 -- those that may have come from u
 unfoldable pub targets : Shape → Sides → ℕ → ℕ
-targets board q u = set_where board.points (λ v. has (arrived board q) v && goes board (count_of q.other) u v)
+targets board q u = set_where board.points (λ v. has (stones_to_unmove board q) v && goes board (count_of q.other) u v)
 
 -- the move from u to v, and the position before it
 abbrev pub back : Sides → ℕ → ℕ → Sides × Move
-back q u v = (before q (move u v None), move u v None)
+back q u v = (unmove q (move u v None), move u v None)
 
 unfoldable pub backs_from : Shape → Sides → ℕ → List (Sides × Move)
 backs_from board q u = map (back q u) (members (targets board q u))

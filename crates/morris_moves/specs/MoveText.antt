@@ -1,7 +1,7 @@
 -- The printed form of a move.
 use Rattle.std.specs.Prelude.{ℕ, List, [], ◌∷◌, ◌++◌, Option, Some, None}
 use Rattle.std.specs.Fmt.{decimal}
-use Rattle.morris_moves.specs.declared.step.Move.{Move}
+use Rattle.morris_moves.specs.declared.game_move.Move.{Move}
 
 -- `from-to`, and with a capture `from-toxtaken`; `-` is 45 and `x` is 120
 abbrev pub taken_text : Option ℕ → List ℕ

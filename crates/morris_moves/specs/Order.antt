@@ -1,6 +1,6 @@
 -- The order in which moves are listed.
 use Rattle.std.specs.Prelude.{◌≡◌, ℕ, Bool, true, false, ◌&&◌, ◌||◌, nat_eq, nat_lt, Option, Some, None}
-use Rattle.morris_moves.specs.declared.step.Move.{Move}
+use Rattle.morris_moves.specs.declared.game_move.Move.{Move}
 
 -- a move that takes nothing stands before one that takes a stone, and those by the point of that
 -- stone

@@ -2,22 +2,22 @@
 -- of it.
 use Rattle.std.specs.Prelude.{ℕ, Bool, not, ◌&&◌, ◌||◌, nat_eq, nat_lt, List, [], ◌∷◌, map, Option, Some, None, if◌then◌else◌}
 use Rattle.std.specs.List.{list_any, flat_map}
-use Rattle.morris_board.specs.Sets.{has, members, count_of, with_point, without_point, is_within, set_where}
+use Rattle.morris_board.specs.Sets.{has, members, count_of, with_point, without_point, is_subset, set_where}
 use Rattle.morris_board.specs.Boards.{Shape, is_adjacent, mills_of}
 use Rattle.morris_board.specs.Positions.{Sides, sides}
-use Rattle.morris_moves.specs.declared.step.Move.{Move}
+use Rattle.morris_moves.specs.declared.game_move.Move.{Move}
 
 -- whether the point t stands in a mill of the set s: some mill that has t lies wholly in s
 unfoldable pub in_mill : Shape → ℕ → ℕ → Bool
-in_mill board s t = list_any (λ mill. has mill t && is_within mill s) (mills_of board)
+in_mill board s t = list_any (λ mill. has mill t && is_subset mill s) (mills_of board)
 
 -- the stones `own` once the one on u has gone to v
-unfoldable pub moved : ℕ → ℕ → ℕ → ℕ
-moved own u v = with_point (without_point own u) v
+unfoldable pub move_stone : ℕ → ℕ → ℕ → ℕ
+move_stone own u v = with_point (without_point own u) v
 
 -- A move from u to v closes a mill when some mill that has v then lies wholly in `own`.
 unfoldable pub closes : Shape → ℕ → ℕ → ℕ → Bool
-closes board own u v = in_mill board (moved own u v) v
+closes board own u v = in_mill board (move_stone own u v) v
 
 -- whether no stone stands on v
 abbrev pub is_vacant : Sides → ℕ → Bool
@@ -41,8 +41,8 @@ reach board s u = set_where board.points (may_go board s u)
 unfoldable pub free_stones : Shape → ℕ → ℕ
 free_stones board other = set_where board.points (λ t. has other t && not (in_mill board other t))
 
-unfoldable pub takable : Shape → ℕ → ℕ
-takable board other = if nat_eq (free_stones board other) 0 then other else free_stones board other
+unfoldable pub takable_stones : Shape → ℕ → ℕ
+takable_stones board other = if nat_eq (free_stones board other) 0 then other else free_stones board other
 
 abbrev pub move : ℕ → ℕ → Option ℕ → Move
 move u v t = record { from = u; to = v; taken = t }
@@ -51,7 +51,7 @@ move u v t = record { from = u; to = v; taken = t }
 -- where it doesn't.
 abbrev pub takes_rightly : Shape → Sides → ℕ → ℕ → Option ℕ → Bool
 takes_rightly board s u v None = not (closes board s.own u v)
-takes_rightly board s u v (Some t) = closes board s.own u v && has (takable board s.other) t
+takes_rightly board s u v (Some t) = closes board s.own u v && has (takable_stones board s.other) t
 
 -- A legal move goes from a stone of the player to move to a point in its reach, and takes what it
 -- must.
@@ -64,7 +64,7 @@ abbrev pub captures : ℕ → ℕ → ℕ → List Move
 captures u v takes = map (λ t. move u v (Some t)) (members takes)
 
 unfoldable pub moves_to : Shape → Sides → ℕ → ℕ → List Move
-moves_to board s u v = if closes board s.own u v then captures u v (takable board s.other) else (move u v None ∷ [])
+moves_to board s u v = if closes board s.own u v then captures u v (takable_stones board s.other) else (move u v None ∷ [])
 
 unfoldable pub moves_from : Shape → Sides → ℕ → List Move
 moves_from board s u = flat_map (moves_to board s u) (members (reach board s u))
@@ -78,4 +78,4 @@ left_of other None = other
 left_of other (Some t) = without_point other t
 
 unfoldable pub result_of : Sides → Move → Sides
-result_of s m = sides (left_of s.other m.taken) (moved s.own m.from m.to)
+result_of s m = sides (left_of s.other m.taken) (move_stone s.own m.from m.to)

@@ -5,8 +5,8 @@ use Rattle.std.specs.List.{list_any, list_all}
 use Rattle.morris_board.specs.Boards.{Shape}
 use Rattle.morris_board.specs.Positions.{Sides}
 use Rattle.morris_moves.specs.Rules.{moves_of, result_of}
-use Rattle.morris_moves.specs.declared.search.Within.{Within}
-use Rattle.morris_moves.specs.declared.search.Within.TheVariants.{Lost, Won, Unknown}
+use Rattle.morris_moves.specs.declared.within.Within.{Within}
+use Rattle.morris_moves.specs.declared.within.Within.TheVariants.{Lost, Won, Unknown}
 
 -- The player to move has lost within n plies: there is no legal move, or n > 0 and the result of
 -- every legal move is won within n - 1. The player to move has won within n plies: n > 0 and the

@@ -4,13 +4,13 @@ ghost use Rattle.std.specs.List.{AllPairs, Contains};
 ghost use Rattle.std.specs.Iterator.{YieldsFirst, item_count};
 ghost use Rattle.morris_board.specs.Sets.{has, count_of};
 ghost use Rattle.morris_board.specs.Positions.{Sides, IsPosition};
-ghost use Rattle.morris_moves.specs.declared.step.Move.{Move};
+ghost use Rattle.morris_moves.specs.declared.game_move.Move.{Move};
 ghost use Rattle.morris_moves.specs.Rules.{is_vacant, move, result_of};
-ghost use Rattle.morris_moves.specs.Backward.{LeadsTo, MovePrecedes, before, has_come};
-ghost use Rattle.morris_moves.specs.Listing.{arrived, targets, backs_left};
+ghost use Rattle.morris_moves.specs.Backward.{LeadsTo, MovePrecedes, unmove, has_come};
+ghost use Rattle.morris_moves.specs.Listing.{stones_to_unmove, targets, backs_left};
 
+use crate::game_move::Move;
 use crate::rules::{free_stones, in_mill, steps, vacant};
-use crate::step::Move;
 use morris_board::board::Geometry;
 use morris_board::points::Points;
 use morris_board::position::Position;
@@ -29,25 +29,25 @@ pub fn sources<B: Geometry>(position: &Position<B>, to: u8) -> Points
     if in_mill::<B>(other, to) {
         return Points::EMPTY;
     }
-    steps::<B>(other.count(), to).common(vacant(position))
+    steps::<B>(other.count(), to).intersection(vacant(position))
 }
 
 /// The position before the move from `from` to `to` that led to `position`, where it took no stone:
 /// a stone of the opponent stands on `to`, and `from` is vacant. The player to move has at least
 /// three stones, as the opponent of the one who moved.
-pub fn before<B: Geometry>(position: &Position<B>, from: u8, to: u8) -> Position<B>
+pub fn unmove<B: Geometry>(position: &Position<B>, from: u8, to: u8) -> Position<B>
     requires start { from < B.POINTS }
     requires vacant { is_vacant position.now from ≡ true }
     requires end { has position.now.other to ≡ true }
     requires enough { 3 ≤ count_of position.now.own }
-    ensures value { result ≡ before position.now (move from to None) }
+    ensures value { result ≡ unmove position.now (move from to None) }
     ensures leads { result_of result (move from to None) ≡ position.now }
     ensures own { count_of result.own ≡ count_of position.now.other }
     ensures other { count_of result.other ≡ count_of position.now.own }
 {
     let mover = position.other().without(to).with(from);
     match Position::new(mover, position.own()) {
-        Ok(before) => before,
+        Ok(predecessor) => predecessor,
         Err(_) => unreachable!(),
     }
 }
@@ -55,8 +55,8 @@ pub fn before<B: Geometry>(position: &Position<B>, from: u8, to: u8) -> Position
 /// The stones that may have made the move before, where that was quiet: those of the opponent that
 /// stand in no mill. They are none where the player to move has two stones, since the opponent of
 /// the one who moved has three at least.
-fn arrived<B: Geometry>(position: &Position<B>) -> Points
-    ensures stones { result ≡ arrived B.shape position.now }
+fn stones_to_unmove<B: Geometry>(position: &Position<B>) -> Points
+    ensures stones { result ≡ stones_to_unmove B.shape position.now }
     ensures lawful { IsPosition B.shape position.now }
 {
     if position.own().count() < 3 {
@@ -67,11 +67,11 @@ fn arrived<B: Geometry>(position: &Position<B>) -> Points
 
 /// Those of the `stones` that may have moved which may have come from `from`.
 fn targets<B: Geometry>(position: &Position<B>, stones: Points, from: u8) -> Points
-    requires stones { stones ≡ arrived B.shape position.now }
+    requires stones { stones ≡ stones_to_unmove B.shape position.now }
     requires start { from < B.POINTS }
     ensures { result ≡ targets B.shape position.now from }
 {
-    steps::<B>(position.other().count(), from).common(stones)
+    steps::<B>(position.other().count(), from).intersection(stones)
 }
 
 /// An iterator over the quiet moves that lead to a position, each once and with the position before
@@ -93,14 +93,14 @@ pub struct Backs<B: Geometry> {
 impl<B: Geometry> Model for Backs<B> {
     ghost use Rattle.std.specs.Prelude.{◌≡◌, List};
     ghost use Rattle.morris_board.specs.Positions.{Sides};
-    ghost use Rattle.morris_moves.specs.declared.step.Move.{Move};
-    ghost use Rattle.morris_moves.specs.Listing.{AreVacant, AreTargets, arrived, backs_left};
+    ghost use Rattle.morris_moves.specs.declared.game_move.Move.{Move};
+    ghost use Rattle.morris_moves.specs.Listing.{AreVacant, AreTargets, stones_to_unmove, backs_left};
 
     ghost Value = { List (Sides × Move) };
 
     ghost view = { λ list. backs_left B.shape list.position list.from_left list.from list.to_left };
 
-    ghost invariant = { λ list. (list.stones ≡ arrived B.shape list.position)
+    ghost invariant = { λ list. (list.stones ≡ stones_to_unmove B.shape list.position)
         × (AreVacant B.shape list.position list.from_left)
         × (AreTargets B.shape list.position list.from list.to_left) };
 }
@@ -114,7 +114,7 @@ impl<B: Geometry> Backs<B> {
     {
         Backs {
             position,
-            stones: arrived(&position),
+            stones: stones_to_unmove(&position),
             from_left: vacant(&position),
             from: 0,
             to_left: Points::EMPTY,
@@ -140,7 +140,7 @@ impl<B: Geometry> Iterator for Backs<B> {
                         to,
                         taken: None,
                     };
-                    return Some((before(&self.position, from, to), m));
+                    return Some((unmove(&self.position, from, to), m));
                 }
                 None => {
                     let from = self.from_left.first()?;

@@ -2,8 +2,11 @@
 #![tactic(auto)]
 
 pub mod backward;
+pub mod game_move;
 pub mod list;
 pub mod look_ahead;
 pub mod rules;
-pub mod search;
-pub mod step;
+pub mod within;
+
+// The paths by which these modules are promised.
+pub use crate::{game_move as step, within as search};

@@ -3,8 +3,8 @@ ghost use Rattle.std.specs.Prelude.{◌≡◌, ◌≤◌, ◌*◌, length};
 ghost use Rattle.std.specs.Iterator.{YieldsFirst, item_count};
 ghost use Rattle.morris_moves.specs.Rules.{moves_of};
 
-use crate::rules::{closes, reach, takable};
-use crate::step::Move;
+use crate::game_move::Move;
+use crate::rules::{closes, reach, takable_stones};
 use morris_board::board::Geometry;
 use morris_board::points::Points;
 use morris_board::position::Position;
@@ -30,7 +30,7 @@ pub struct Moves<B: Geometry> {
 
 impl<B: Geometry> Model for Moves<B> {
     ghost use Rattle.std.specs.Prelude.{List, ◌<◌, ◌^◌};
-    ghost use Rattle.morris_moves.specs.declared.step.Move.{Move};
+    ghost use Rattle.morris_moves.specs.declared.game_move.Move.{Move};
     ghost use Rattle.morris_moves.specs.Listing.{moves_left};
 
     ghost Value = { List Move };
@@ -86,7 +86,7 @@ impl<B: Geometry> Iterator for Moves<B> {
                                 taken: None,
                             });
                         }
-                        self.take_left = takable::<B>(self.position.other());
+                        self.take_left = takable_stones::<B>(self.position.other());
                     }
                     None => {
                         let from = self.from_left.first()?;

@@ -5,7 +5,7 @@ ghost use Rattle.morris_moves.specs.Images.{IsImage, HaveOneValue};
 ghost use Rattle.morris_moves.specs.Values.{is_lost, is_won, AnswersWithin, IsLostIn, IsWonIn, IsOpen};
 
 use crate::rules::{moves, play, reach};
-use crate::search::Within;
+use crate::within::Within;
 use morris_board::board::Geometry;
 use morris_board::points::Points;
 use morris_board::position::Position;

@@ -4,14 +4,14 @@ ghost use Rattle.std.specs.Prelude.{◌≡◌, ℕ, ◌<◌, ◌≤◌, ◌*◌,
 ghost use Rattle.morris_board.specs.Sets.{has};
 ghost use Rattle.std.specs.List.{AllPairs, Contains};
 ghost use Rattle.morris_board.specs.Positions.{Sides};
-ghost use Rattle.morris_moves.specs.declared.step.Move.{Move};
+ghost use Rattle.morris_moves.specs.declared.game_move.Move.{Move};
 ghost use Rattle.morris_moves.specs.Order.{Precedes};
 ghost use Rattle.morris_moves.specs.Backward.{LeadsTo, MovePrecedes};
-ghost use Rattle.morris_moves.specs.Rules.{in_mill, is_vacant, moved, closes, goes, may_go, reach, free_stones, takable, takes_rightly, left_of, is_legal, moves_of, result_of};
+ghost use Rattle.morris_moves.specs.Rules.{in_mill, is_vacant, move_stone, closes, goes, may_go, reach, free_stones, takable_stones, takes_rightly, left_of, is_legal, moves_of, result_of};
 
 use crate::backward::Backs;
+use crate::game_move::Move;
 use crate::list::Moves;
-use crate::step::Move;
 use morris_board::board::Geometry;
 use morris_board::points::Points;
 use morris_board::position::Position;
@@ -22,15 +22,15 @@ pub fn in_mill<B: Geometry>(stones: Points, point: u8) -> bool
     ensures { result ≡ in_mill B.shape stones point }
 {
     let (first, second) = B::mills_through(point);
-    first.is_within(stones) || second.is_within(stones)
+    first.is_subset(stones) || second.is_subset(stones)
 }
 
 /// The stones `own` once the one on `from` has gone to `to`.
-#[tactic(auto, unfolding(crate::specs::Rules::moved))]
-fn moved(own: Points, from: u8, to: u8) -> Points
+#[tactic(auto, unfolding(crate::specs::Rules::move_stone))]
+fn move_stone(own: Points, from: u8, to: u8) -> Points
     requires start { from < 32 }
     requires end { to < 32 }
-    ensures { result ≡ moved own from to }
+    ensures { result ≡ move_stone own from to }
 {
     own.without(from).with(to)
 }
@@ -42,7 +42,7 @@ pub fn closes<B: Geometry>(own: Points, from: u8, to: u8) -> bool
     requires end { to < B.POINTS }
     ensures { result ≡ closes B.shape own from to }
 {
-    in_mill::<B>(moved(own, from, to), to)
+    in_mill::<B>(move_stone(own, from, to), to)
 }
 
 /// The points on which no stone stands.
@@ -50,8 +50,8 @@ pub fn vacant<B: Geometry>(position: &Position<B>) -> Points
     ensures { (p : ℕ) → has result p ≡ (nat_lt p B.POINTS && is_vacant position.now p) }
 {
     Points::below(B::POINTS)
-        .less(position.own())
-        .less(position.other())
+        .difference(position.own())
+        .difference(position.other())
 }
 
 /// The points between which and `point` a stone of a player with this many stones goes where
@@ -74,7 +74,7 @@ pub fn reach<B: Geometry>(position: &Position<B>, from: u8) -> Points
     requires { from < B.POINTS }
     ensures { result ≡ reach B.shape position.now from }
 {
-    steps::<B>(position.own().count(), from).common(vacant(position))
+    steps::<B>(position.own().count(), from).intersection(vacant(position))
 }
 
 /// Whether a stone on `from` may go to `to`.
@@ -84,7 +84,7 @@ fn may_go<B: Geometry>(position: &Position<B>, from: u8, to: u8) -> bool
     ensures { result ≡ may_go B.shape position.now from to }
 {
     let own = position.own();
-    if own.joined(position.other()).has(to) {
+    if own.union(position.other()).has(to) {
         return false;
     }
     steps::<B>(own.count(), from).has(to)
@@ -98,18 +98,18 @@ pub(crate) fn free_stones<B: Geometry>(other: Points) -> Points
     let mut free = other;
     for number in 0..B::MILLS {
         let mill = B::mill(number);
-        if mill.is_within(other) {
-            free = free.less(mill);
+        if mill.is_subset(other) {
+            free = free.difference(mill);
         }
     }
     free
 }
 
 /// The stones of the opponent that a move may take where it closes a mill.
-#[tactic(auto, unfolding(crate::specs::Rules::takable))]
-pub fn takable<B: Geometry>(other: Points) -> Points
+#[tactic(auto, unfolding(crate::specs::Rules::takable_stones))]
+pub fn takable_stones<B: Geometry>(other: Points) -> Points
     requires { other < 2 ^ B.POINTS }
-    ensures { result ≡ takable B.shape other }
+    ensures { result ≡ takable_stones B.shape other }
 {
     let free = free_stones::<B>(other);
     if free == Points::EMPTY { other } else { free }
@@ -125,7 +125,8 @@ fn takes_rightly<B: Geometry>(position: &Position<B>, from: u8, to: u8, taken: O
     let closing = closes::<B>(position.own(), from, to);
     match taken {
         None => !closing,
-        Some(point) if point < B::POINTS => closing && takable::<B>(position.other()).has(point),
+        Some(point) if point < B::POINTS => closing
+            && takable_stones::<B>(position.other()).has(point),
         Some(_) => false,
     }
 }
@@ -164,7 +165,7 @@ pub fn play<B: Geometry>(position: &Position<B>, m: Move) -> Position<B>
     requires { Contains (moves_of B.shape position.now) m }
     ensures { result ≡ result_of position.now m }
 {
-    let own = moved(position.own(), m.from, m.to);
+    let own = move_stone(position.own(), m.from, m.to);
     let other = left_of(position.other(), m.taken);
     match Position::new(other, own) {
         Ok(played) => played,

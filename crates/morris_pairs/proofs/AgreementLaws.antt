@@ -9,15 +9,15 @@ use Rattle.morris_board.specs.Sets.{has, members}
 use Rattle.morris_board.specs.Boards.{Shape, is_board}
 use Rattle.morris_board.specs.Positions.{Sides, IsPosition}
 use Rattle.morris_board.specs.Symmetries.{HasSymmetries}
-use Rattle.morris_moves.specs.declared.step.Move.{Move}
-use Rattle.morris_moves.specs.Rules.{closes, takable, reach, move, moves_to, moves_from, moves_of, result_of}
+use Rattle.morris_moves.specs.declared.game_move.Move.{Move}
+use Rattle.morris_moves.specs.Rules.{closes, takable_stones, reach, move, moves_to, moves_from, moves_of, result_of}
 use Rattle.morris_moves.proofs.LegalLaws.{listed_iff, legal_where_taken}
 use Rattle.morris_index.specs.Pairs.{Counts, IsPair, is_of}
 use Rattle.morris_index.proofs.IndexLaws.{placed}
 use Rattle.morris_wave.specs.Nets.{Net}
-use Rattle.morris_wave.specs.declared.network.Exits.{Exits}
-use Rattle.morris_wave.specs.Exits.{is_odd, is_won_code, least, greatest, depths, exits_of, exits_lost, exits_won}
-use Rattle.morris_wave.specs.Values.{is_lost, is_won, is_decided, is_lost_exit, is_won_exit, HasCode, HasDepth}
+use Rattle.morris_wave.specs.declared.graph.Exits.{Exits}
+use Rattle.morris_wave.specs.Exits.{is_odd, is_won_code, minimum, maximum, depths, exits_of, exits_lost, exits_won}
+use Rattle.morris_wave.specs.Values.{is_lost_before, is_won_before, is_decided, is_lost_exit, is_won_exit, HasCode, HasDepth}
 use Rattle.morris_wave.proofs.Depths.{lost_more, won_more, lost_parity, won_parity, apart, decided_by_then, none_decided}
 use Rattle.morris_wave.proofs.ExitTests.{depths_yes, depths_no, some_exit_lost, each_exit_won}
 use Rattle.morris_pairs.specs.Entries.{entry_count, entry_index, has_own_entry}
@@ -28,12 +28,12 @@ use Rattle.morris_pairs.specs.PairNets.{is_quiet, is_capture, quiet_results, cap
 use Rattle.morris_pairs.specs.Tables.{Table, IsTable}
 use Rattle.morris_pairs.specs.Raws.{IsRaw}
 use Rattle.morris_pairs.specs.Graphs.{HasGameValues}
-use Rattle.morris_wave.specs.Summaries.{added, least_with}
-use Rattle.morris_pairs.specs.Agreement.{code_above, code_from, stated_code, result_codes, quiet_codes, all_added, Agrees}
+use Rattle.morris_wave.specs.Summaries.{add_code, least_with}
+use Rattle.morris_pairs.specs.Agreement.{code_above, code_from, stated_code, result_codes, quiet_codes, add_all, Agrees}
 use Rattle.morris_pairs.specs.FilterLaws.{list_any-map, all_parts, any_parts}
 use Rattle.morris_pairs.specs.NetLaws.{points_few, quiet-at, exits-at, quiet-stays, result-position, net_at-level_in}
 use Rattle.morris_wave.proofs.Summaries.{exits_of-more}
-use Rattle.morris_pairs.specs.Worths.{worth_of, code_of_worth, best_of, IsShort}
+use Rattle.morris_pairs.specs.Scores.{score_of, code_of_score, best_of, IsShort}
 use Rattle.morris_pairs.proofs.WorthLaws.{code-best}
 
 -- ---- depths of lost codes are even, and those of won codes odd
@@ -75,19 +75,19 @@ greatest_odd x (Some y) e h = elim (cases_lt x y) [
   | inr l ↦ let m : max x y ≡ x = omega arith in rw m e
 ]
 
-lost_even : (codes : List ℕ) → AllEven (least (depths is_odd codes))
+lost_even : (codes : List ℕ) → AllEven (minimum (depths is_odd codes))
 lost_even [] = tt
 lost_even (c ∷ cs) = elim (cases_Bool (is_odd c)) [
-  | inl odd ↦ subst (λ ds. AllEven (least ds)) (sym (depths_yes is_odd c cs odd)) (least_even (c - 1) (least (depths is_odd cs)) (even_before c odd) (lost_even cs))
-  | inr other ↦ subst (λ ds. AllEven (least ds)) (sym (depths_no is_odd c cs other)) (lost_even cs)
+  | inl odd ↦ subst (λ ds. AllEven (minimum ds)) (sym (depths_yes is_odd c cs odd)) (least_even (c - 1) (minimum (depths is_odd cs)) (even_before c odd) (lost_even cs))
+  | inr other ↦ subst (λ ds. AllEven (minimum ds)) (sym (depths_no is_odd c cs other)) (lost_even cs)
 ]
 
-won_odd : (codes : List ℕ) → AllOdd (greatest (depths is_won_code codes))
+won_odd : (codes : List ℕ) → AllOdd (maximum (depths is_won_code codes))
 won_odd [] = tt
 won_odd (c ∷ cs) = elim (cases_Bool (is_won_code c)) [
-  | inl won ↦ subst (λ ds. AllOdd (greatest ds)) (sym (depths_yes is_won_code c cs won))
-      (greatest_odd (c - 1) (greatest (depths is_won_code cs)) (odd_before c won) (won_odd cs))
-  | inr other ↦ subst (λ ds. AllOdd (greatest ds)) (sym (depths_no is_won_code c cs other)) (won_odd cs)
+  | inl won ↦ subst (λ ds. AllOdd (maximum ds)) (sym (depths_yes is_won_code c cs won))
+      (greatest_odd (c - 1) (maximum (depths is_won_code cs)) (odd_before c won) (won_odd cs))
+  | inr other ↦ subst (λ ds. AllOdd (maximum ds)) (sym (depths_no is_won_code c cs other)) (won_odd cs)
 ]
 
 -- ---- what the code that the rules give says, in fewer than n + 1 plies
@@ -125,10 +125,10 @@ above_won n None (Some d) false even odd = ap (λ b. (not b && ltb 0 (d + 2)) &&
 
 module _ (n : ℕ) (codes : List ℕ) where
   rule_lost : is_lost_exit (suc n) (code_from codes) ≡ list_all (is_won_exit n) codes
-  rule_lost = above_lost n (least (depths is_odd codes)) (greatest (depths is_won_code codes)) _ (lost_even codes) (won_odd codes) ∙ sym (each_exit_won n codes)
+  rule_lost = above_lost n (minimum (depths is_odd codes)) (maximum (depths is_won_code codes)) _ (lost_even codes) (won_odd codes) ∙ sym (each_exit_won n codes)
 
   rule_won : is_won_exit (suc n) (code_from codes) ≡ list_any (is_lost_exit n) codes
-  rule_won = above_won n (least (depths is_odd codes)) (greatest (depths is_won_code codes)) _ (lost_even codes) (won_odd codes) ∙ sym (some_exit_lost n codes)
+  rule_won = above_won n (minimum (depths is_odd codes)) (maximum (depths is_won_code codes)) _ (lost_even codes) (won_odd codes) ∙ sym (some_exit_lost n codes)
 
 -- ---- two codes that say the same are one
 
@@ -191,42 +191,42 @@ same_from_rule xs ys all_same any_same = same_code (code_from xs) (code_from ys)
 
 -- ---- what the code of a node says is what the graph says
 
-lost_from : (g : Net) (i n m : ℕ) → is_lost g n i ≡ true → is_lost g (n + m) i ≡ true
-lost_from g i n zero h = subst (λ x. is_lost g x i ≡ true) (sym (add-zero n)) h
-lost_from g i n (suc m) h = subst (λ x. is_lost g x i ≡ true) (sym (add-suc n m)) (lost_more g (n + m) i (lost_from g i n m h))
+lost_from : (g : Net) (i n m : ℕ) → is_lost_before g n i ≡ true → is_lost_before g (n + m) i ≡ true
+lost_from g i n zero h = subst (λ x. is_lost_before g x i ≡ true) (sym (add-zero n)) h
+lost_from g i n (suc m) h = subst (λ x. is_lost_before g x i ≡ true) (sym (add-suc n m)) (lost_more g (n + m) i (lost_from g i n m h))
 
-won_from : (g : Net) (i n m : ℕ) → is_won g n i ≡ true → is_won g (n + m) i ≡ true
-won_from g i n zero h = subst (λ x. is_won g x i ≡ true) (sym (add-zero n)) h
-won_from g i n (suc m) h = subst (λ x. is_won g x i ≡ true) (sym (add-suc n m)) (won_more g (n + m) i (won_from g i n m h))
+won_from : (g : Net) (i n m : ℕ) → is_won_before g n i ≡ true → is_won_before g (n + m) i ≡ true
+won_from g i n zero h = subst (λ x. is_won_before g x i ≡ true) (sym (add-zero n)) h
+won_from g i n (suc m) h = subst (λ x. is_won_before g x i ≡ true) (sym (add-suc n m)) (won_more g (n + m) i (won_from g i n m h))
 
-lost_by_then : (g : Net) (i n m : ℕ) → n ≤ m → is_lost g n i ≡ true → is_lost g m i ≡ true
-lost_by_then g i n m low h = let e : n + (m - n) ≡ m = omega arith in subst (λ x. is_lost g x i ≡ true) e (lost_from g i n (m - n) h)
+lost_by_then : (g : Net) (i n m : ℕ) → n ≤ m → is_lost_before g n i ≡ true → is_lost_before g m i ≡ true
+lost_by_then g i n m low h = let e : n + (m - n) ≡ m = omega arith in subst (λ x. is_lost_before g x i ≡ true) e (lost_from g i n (m - n) h)
 
-won_by_then : (g : Net) (i n m : ℕ) → n ≤ m → is_won g n i ≡ true → is_won g m i ≡ true
-won_by_then g i n m low h = let e : n + (m - n) ≡ m = omega arith in subst (λ x. is_won g x i ≡ true) e (won_from g i n (m - n) h)
+won_by_then : (g : Net) (i n m : ℕ) → n ≤ m → is_won_before g n i ≡ true → is_won_before g m i ≡ true
+won_by_then g i n m low h = let e : n + (m - n) ≡ m = omega arith in subst (λ x. is_won_before g x i ≡ true) e (won_from g i n (m - n) h)
 
 -- the code says of a node what the graph says, in fewer than n plies
 abbrev Says : Net → ℕ → ℕ → ℕ → Type 0
-Says g i code n = (is_lost_exit n code ≡ is_lost g n i) × (is_won_exit n code ≡ is_won g n i)
+Says g i code n = (is_lost_exit n code ≡ is_lost_before g n i) × (is_won_exit n code ≡ is_won_before g n i)
 
 module _ (g : Net) (i : ℕ) where
   open_says : (code n : ℕ) → is_decided g n i ≡ false → is_lost_exit n code ≡ false → is_won_exit n code ≡ false → Says g i code n
-  open_says code n e lost won = let w = or_parts (is_lost g n i) (is_won g n i) e in (lost ∙ sym w.0, won ∙ sym w.1)
+  open_says code n e lost won = let w = or_parts (is_lost_before g n i) (is_won_before g n i) e in (lost ∙ sym w.0, won ∙ sym w.1)
 
   decided_says : (d n : ℕ) → suc d ≤ n → HasDepth g i d → Says g i (suc d) n
   decided_says d n low h =
-      let before = or_parts (is_lost g d i) (is_won g d i) h.not_before in
-      elim (or_cases (is_lost g (suc d) i) (is_won g (suc d) i) h.reached) [
+      let before = or_parts (is_lost_before g d i) (is_won_before g d i) h.not_before in
+      elim (or_cases (is_lost_before g (suc d) i) (is_won_before g (suc d) i) h.reached) [
         | inl lost ↦
             let odd : is_odd (suc d) ≡ true = lost_parity g d i lost before.0 in
-            let now : is_lost g n i ≡ true = lost_by_then g i (suc d) n low lost in (
+            let now : is_lost_before g n i ≡ true = lost_by_then g i (suc d) n low lost in (
               and_from (is_odd (suc d)) (leb (suc d) n) odd (le-leb (suc d) n low) ∙ sym now,
-              ap (λ b. (not b && ltb 0 (suc d)) && leb (suc d) n) odd ∙ sym (false_from_ne_true (is_won g n i) (λ won. apart g n i now won)),
+              ap (λ b. (not b && ltb 0 (suc d)) && leb (suc d) n) odd ∙ sym (false_from_ne_true (is_won_before g n i) (λ won. apart g n i now won)),
             )
         | inr won ↦
             let even : is_odd (suc d) ≡ false = won_parity g d i won before.1 in
-            let now : is_won g n i ≡ true = won_by_then g i (suc d) n low won in (
-              ap (λ b. b && leb (suc d) n) even ∙ sym (false_from_ne_true (is_lost g n i) (λ lost. apart g n i lost now)),
+            let now : is_won_before g n i ≡ true = won_by_then g i (suc d) n low won in (
+              ap (λ b. b && leb (suc d) n) even ∙ sym (false_from_ne_true (is_lost_before g n i) (λ lost. apart g n i lost now)),
               and_from (is_won_code (suc d)) (leb (suc d) n) (and_from (not (is_odd (suc d))) (ltb 0 (suc d)) (not_from_false (is_odd (suc d)) even) (lt-ltb 0 (suc d) (omega arith)))
                   (le-leb (suc d) n low)
                   ∙ sym now,
@@ -269,41 +269,41 @@ module _ (board : Shape) (few : board.points ≤ 24) (t : Table) (laid : IsLaid 
   Means n s = Says (pair_net board t.layout t.pair) (entry_index board board.points t.layout t.pair s) (get_or t.codes (entry_index board board.points t.layout t.pair s) 0) n
 
   -- what the rules give a position, where each quiet result is stated as it is
-  module _ (n : ℕ) (s : Sides) (h : IsPosition board s) (of : is_of t.pair s ≡ true) (kept : has_own_entry board t.layout s ≡ true)
+  module _ (n : ℕ) (s : Sides) (h : IsPosition board s) (of : is_of t.pair s ≡ true) (cache : has_own_entry board t.layout s ≡ true)
       (each : (u : Sides) → IsPosition board u → is_of t.pair u ≡ true → Means n u) where
     there : (m : Move) → Contains (moves_of board s) m → is_quiet m ≡ true → Means n (result_of s m)
     there m listed quiet = each (result_of s m) (result-position board few s h m listed) (quiet-stays board few s h m listed t.pair of quiet)
 
-    rule_is_lost : is_lost_exit (suc n) (code_from (result_codes board t s)) ≡ is_lost (pair_net board t.layout t.pair) (suc n) (entry_index board board.points t.layout t.pair s)
-    unfolding result_codes quiet_results capture_codes is_lost
+    rule_is_lost : is_lost_exit (suc n) (code_from (result_codes board t s)) ≡ is_lost_before (pair_net board t.layout t.pair) (suc n) (entry_index board board.points t.layout t.pair s)
+    unfolding result_codes quiet_results capture_codes is_lost_before
     rule_is_lost =
         rule_lost n (map (stated_code board t s) (moves_of board s))
         ∙ list_all-map (is_won_exit n) (stated_code board t s) (moves_of board s)
         ∙ sym (
-        ap₂ (λ quiet codes. list_all (is_won (pair_net board t.layout t.pair) n) quiet && list_all (is_won_exit n) codes)
-        (quiet-at board few (order_of t.layout) t.pair laid s h of kept) (exits-at board few (order_of t.layout) t.pair laid s h of kept)
+        ap₂ (λ quiet codes. list_all (is_won_before (pair_net board t.layout t.pair) n) quiet && list_all (is_won_exit n) codes)
+        (quiet-at board few (order_of t.layout) t.pair laid s h of cache) (exits-at board few (order_of t.layout) t.pair laid s h of cache)
         ∙ ap₂ (λ a b. a && b)
-        (list_all-map (is_won (pair_net board t.layout t.pair) n) (λ m. entry_index board board.points t.layout t.pair (result_of s m)) (filter is_quiet (moves_of board s)))
+        (list_all-map (is_won_before (pair_net board t.layout t.pair) n) (λ m. entry_index board board.points t.layout t.pair (result_of s m)) (filter is_quiet (moves_of board s)))
         (list_all-map (is_won_exit n) (λ m. code_to 65534 board (result_of s m)) (filter is_capture (moves_of board s)))
         ∙ all_parts is_quiet (λ m. is_won_exit n (stated_code board t s m))
-        (λ m. is_won (pair_net board t.layout t.pair) n (entry_index board board.points t.layout t.pair (result_of s m))) (λ m. is_won_exit n (code_to 65534 board (result_of s m)))
+        (λ m. is_won_before (pair_net board t.layout t.pair) n (entry_index board board.points t.layout t.pair (result_of s m))) (λ m. is_won_exit n (code_to 65534 board (result_of s m)))
         (moves_of board s)
         (λ m listed quiet. sym (there m listed quiet).1 ∙ ap (is_won_exit n) (sym (stated-quiet board t s m quiet)))
         (λ m listed takes. ap (is_won_exit n) (sym (stated-capture board t s m takes))))
 
-    rule_is_won : is_won_exit (suc n) (code_from (result_codes board t s)) ≡ is_won (pair_net board t.layout t.pair) (suc n) (entry_index board board.points t.layout t.pair s)
-    unfolding result_codes quiet_results capture_codes is_won
+    rule_is_won : is_won_exit (suc n) (code_from (result_codes board t s)) ≡ is_won_before (pair_net board t.layout t.pair) (suc n) (entry_index board board.points t.layout t.pair s)
+    unfolding result_codes quiet_results capture_codes is_won_before
     rule_is_won =
         rule_won n (map (stated_code board t s) (moves_of board s))
         ∙ list_any-map (is_lost_exit n) (stated_code board t s) (moves_of board s)
         ∙ sym (
-        ap₂ (λ quiet codes. list_any (is_lost (pair_net board t.layout t.pair) n) quiet || list_any (is_lost_exit n) codes)
-        (quiet-at board few (order_of t.layout) t.pair laid s h of kept) (exits-at board few (order_of t.layout) t.pair laid s h of kept)
+        ap₂ (λ quiet codes. list_any (is_lost_before (pair_net board t.layout t.pair) n) quiet || list_any (is_lost_exit n) codes)
+        (quiet-at board few (order_of t.layout) t.pair laid s h of cache) (exits-at board few (order_of t.layout) t.pair laid s h of cache)
         ∙ ap₂ (λ a b. a || b)
-        (list_any-map (is_lost (pair_net board t.layout t.pair) n) (λ m. entry_index board board.points t.layout t.pair (result_of s m)) (filter is_quiet (moves_of board s)))
+        (list_any-map (is_lost_before (pair_net board t.layout t.pair) n) (λ m. entry_index board board.points t.layout t.pair (result_of s m)) (filter is_quiet (moves_of board s)))
         (list_any-map (is_lost_exit n) (λ m. code_to 65534 board (result_of s m)) (filter is_capture (moves_of board s)))
         ∙ any_parts is_quiet (λ m. is_lost_exit n (stated_code board t s m))
-        (λ m. is_lost (pair_net board t.layout t.pair) n (entry_index board board.points t.layout t.pair (result_of s m))) (λ m. is_lost_exit n (code_to 65534 board (result_of s m)))
+        (λ m. is_lost_before (pair_net board t.layout t.pair) n (entry_index board board.points t.layout t.pair (result_of s m))) (λ m. is_lost_exit n (code_to 65534 board (result_of s m)))
         (moves_of board s)
         (λ m listed quiet. sym (there m listed quiet).0 ∙ ap (is_lost_exit n) (sym (stated-quiet board t s m quiet)))
         (λ m listed takes. ap (is_lost_exit n) (sym (stated-capture board t s m takes))))
@@ -340,18 +340,18 @@ module _ (board : Shape) (few : board.points ≤ 24) (t : Table) (laid : IsLaid 
 
     exact_agrees : (s : Sides) → IsPosition board s → is_of t.pair s ≡ true → has_own_entry board t.layout s ≡ true
         → get_or t.codes (entry_index board board.points t.layout t.pair s) 0 ≡ code_from (result_codes board t s)
-    exact_agrees s h of kept = same_code _ _ lost won
+    exact_agrees s h of cache = same_code _ _ lost won
       where
         none : (code : ℕ) → (is_lost_exit 0 code ≡ false) × (is_won_exit 0 code ≡ false)
         none code = or_parts (is_lost_exit 0 code) (is_won_exit 0 code) (none_says code)
 
         lost : (n : ℕ) → is_lost_exit n (get_or t.codes (entry_index board board.points t.layout t.pair s) 0) ≡ is_lost_exit n (code_from (result_codes board t s))
         lost zero = (none (get_or t.codes (entry_index board board.points t.layout t.pair s) 0)).0 ∙ sym (none (code_from (result_codes board t s))).0
-        lost (suc n) = (exact_means (suc n) s h of).0 ∙ sym (rule_is_lost n s h of kept (exact_means n))
+        lost (suc n) = (exact_means (suc n) s h of).0 ∙ sym (rule_is_lost n s h of cache (exact_means n))
 
         won : (n : ℕ) → is_won_exit n (get_or t.codes (entry_index board board.points t.layout t.pair s) 0) ≡ is_won_exit n (code_from (result_codes board t s))
         won zero = (none (get_or t.codes (entry_index board board.points t.layout t.pair s) 0)).1 ∙ sym (none (code_from (result_codes board t s))).1
-        won (suc n) = (exact_means (suc n) s h of).1 ∙ sym (rule_is_won n s h of kept (exact_means n))
+        won (suc n) = (exact_means (suc n) s h of).1 ∙ sym (rule_is_won n s h of cache (exact_means n))
 
 -- ---- in the words of the game
 
@@ -379,22 +379,22 @@ module _ (board : Shape) (lawful : is_board board ≡ true) (y : HasSymmetries b
   }
 
   pub agreed_if_exact : IsTable board t → (i : ℕ) → Agrees board t i
-  agreed_if_exact h i s position of kept at =
+  agreed_if_exact h i s position of cache at =
       subst (λ k. get_or t.codes k 0 ≡ code_from (result_codes board t s)) at
       (exact_agrees board (points_few board lawful) t entries
-      (λ u there belongs. (node_value u (get_or t.codes (entry_index board board.points t.layout t.pair u) 0) there belongs).1 (h.exact u there belongs)) s position of kept)
+      (λ u there belongs. (node_value u (get_or t.codes (entry_index board board.points t.layout t.pair u) 0) there belongs).1 (h.exact u there belongs)) s position of cache)
 
 -- ---- the summary of a position's results, move by move
 
-exits_of-added : (first codes : List ℕ) → all_added (exits_of first) codes ≡ exits_of (first ++ codes)
-unfolding all_added
+exits_of-added : (first codes : List ℕ) → add_all (exits_of first) codes ≡ exits_of (first ++ codes)
+unfolding add_all
 exits_of-added first [] = ap exits_of (sym (append-nil first))
 exits_of-added first (c ∷ codes) =
-    ap (λ e. all_added e codes) (sym (exits_of-more first c)) ∙ exits_of-added (first ++ c ∷ []) codes ∙ ap exits_of (append_assoc first (c ∷ []) codes)
+    ap (λ e. add_all e codes) (sym (exits_of-more first c)) ∙ exits_of-added (first ++ c ∷ []) codes ∙ ap exits_of (append_assoc first (c ∷ []) codes)
 
 -- a result that is lost at once stays the one that is lost soonest
-added-lost_now : (e : Exits) (c : ℕ) → e.least_lost ≡ Some 0 → (added e c).least_lost ≡ Some 0
-unfolding added
+added-lost_now : (e : Exits) (c : ℕ) → e.least_lost ≡ Some 0 → (add_code e c).least_lost ≡ Some 0
+unfolding add_code
 added-lost_now e c now = elim (cases_Bool (is_odd c)) [
   | inl odd ↦ let none : min 0 (c - 1) ≡ 0 = omega arith in rw odd (ap (λ o. Some (least_with o (c - 1))) now ∙ ap (λ n. Some n) none)
   | inr even ↦ elim (cases_Bool (ltb 0 c)) [
@@ -403,10 +403,10 @@ added-lost_now e c now = elim (cases_Bool (is_odd c)) [
   ]
 ]
 
-all_added-lost_now : (e : Exits) (codes : List ℕ) → e.least_lost ≡ Some 0 → (all_added e codes).least_lost ≡ Some 0
-unfolding all_added
+all_added-lost_now : (e : Exits) (codes : List ℕ) → e.least_lost ≡ Some 0 → (add_all e codes).least_lost ≡ Some 0
+unfolding add_all
 all_added-lost_now e [] now = now
-all_added-lost_now e (c ∷ codes) now = all_added-lost_now (added e c) codes (added-lost_now e c now)
+all_added-lost_now e (c ∷ codes) now = all_added-lost_now (add_code e c) codes (added-lost_now e c now)
 
 above-lost_now : (e : Exits) → e.least_lost ≡ Some 0 → code_above e ≡ 2
 above-lost_now e now = rw now refl
@@ -430,7 +430,7 @@ module _ (board : Shape) (t : Table) (s : Sides) where
   -- a move that closes a mill is not quiet, and one that closes none is
   captures_none : (u v : ℕ) → closes board s.own u v ≡ true → quiet_codes board t s (moves_to board s u v) ≡ []
   unfolding moves_to
-  captures_none u v shut = rw shut (none_quiet u v (members (takable board s.other)))
+  captures_none u v shut = rw shut (none_quiet u v (members (takable_stones board s.other)))
 
   quiet_codes-one : (u v : ℕ) → closes board s.own u v ≡ false
       → quiet_codes board t s (moves_to board s u v) ≡ get_or t.codes (entry_index board board.points t.layout t.pair (result_of s (move u v None))) 0 ∷ []
@@ -510,17 +510,17 @@ module _ (board : Shape) (t : Table) (s : Sides) where
       ∙ sym (list_any-map p (stated_code board t s) (moves_of board s))
 
   -- the captures and then the quiet moves are all moves
-  pub added-all : (e : Exits) → e ≡ exits_of (capture_codes board s) → code_above (all_added e (quiet_codes board t s (moves_of board s))) ≡ code_from (result_codes board t s)
+  pub added-all : (e : Exits) → e ≡ exits_of (capture_codes board s) → code_above (add_all e (quiet_codes board t s (moves_of board s))) ≡ code_from (result_codes board t s)
   unfolding quiet_codes
   added-all e is =
-      ap code_above (ap (λ x. all_added x (map (λ m. get_or t.codes (entry_index board board.points t.layout t.pair (result_of s m)) 0) (filter is_quiet (moves_of board s)))) is
+      ap code_above (ap (λ x. add_all x (map (λ m. get_or t.codes (entry_index board board.points t.layout t.pair (result_of s m)) 0) (filter is_quiet (moves_of board s)))) is
       ∙ exits_of-added (capture_codes board s) (map (λ m. get_or t.codes (entry_index board board.points t.layout t.pair (result_of s m)) 0) (filter is_quiet (moves_of board s))))
       ∙ same_from_rule (capture_codes board s ++ map (λ m. get_or t.codes (entry_index board board.points t.layout t.pair (result_of s m)) 0) (filter is_quiet (moves_of board s)))
       (result_codes board t s) (λ n. all_both (is_won_exit n)) (λ n. any_both (is_lost_exit n))
 
   -- the same by what results are worth
   pub best-all : (e : Exits) → e ≡ exits_of (capture_codes board s) → IsShort e → ((k : ℕ) → get_or t.codes k 0 ≤ 65535)
-      → code_of_worth (best_of (worth_of e) (quiet_codes board t s (moves_of board s))) ≡ code_from (result_codes board t s)
+      → code_of_score (best_of (score_of e) (quiet_codes board t s (moves_of board s))) ≡ code_from (result_codes board t s)
   unfolding quiet_codes
   best-all e is short small =
       code-best (λ (m : Move). get_or t.codes (entry_index board board.points t.layout t.pair (result_of s m)) 0)
@@ -530,7 +530,7 @@ module _ (board : Shape) (t : Table) (s : Sides) where
   -- a capture that wins at once decides
   pub added-now : (e : Exits) → e ≡ exits_of (capture_codes board s) → e.least_lost ≡ Some 0 → code_above e ≡ code_from (result_codes board t s)
   added-now e is now =
-      above-lost_now e now ∙ sym (above-lost_now (all_added e (quiet_codes board t s (moves_of board s))) (all_added-lost_now e (quiet_codes board t s (moves_of board s)) now))
+      above-lost_now e now ∙ sym (above-lost_now (add_all e (quiet_codes board t s (moves_of board s))) (all_added-lost_now e (quiet_codes board t s (moves_of board s)) now))
       ∙ added-all e is
 
 -- numbers of 16 bits, with 0 past the last
@@ -560,14 +560,14 @@ pub agrees_at : (board : Shape) → is_board board ≡ true → HasSymmetries bo
     → (s : Sides) → IsPosition board s → is_of t.pair s ≡ true → has_own_entry board t.layout s ≡ true
     → (i : ℕ) → entry_index board n t.layout t.pair s ≡ i → (code above : ℕ) (r : Bool) → r ≡ eqb code above → code ≡ get_or t.codes i 0
     → above ≡ code_from (result_codes board t s) → (r ≡ true) ↔ Agrees board t i
-agrees_at board lawful y n points t pair s h of kept i at code above r is code_is above_is =
+agrees_at board lawful y n points t pair s h of cache i at code above r is code_is above_is =
     let here : entry_index board board.points t.layout t.pair s ≡ i = ap (λ k. entry_index board k t.layout t.pair s) points ∙ at in (
       λ yes u there belongs own same.
           let one : s ≡ u =
           (laid board (points_few board lawful) y t.layout t.pair pair).alone s u (placed board board.points s refl h) (placed board board.points u refl there)
-          of belongs kept own (here ∙ sym same) in
+          of belongs cache own (here ∙ sym same) in
           subst (λ x. get_or t.codes i 0 ≡ code_from (result_codes board t x)) one (sym code_is ∙ eqb-true code above (sym is ∙ yes) ∙ above_is),
-      λ agree. is ∙ eq-eqb code above (code_is ∙ agree s h of kept here ∙ sym above_is),
+      λ agree. is ∙ eq-eqb code above (code_is ∙ agree s h of cache here ∙ sym above_is),
     )
 
 -- a table is exact where all entries agree, and only there, with the number of points given apart

@@ -9,9 +9,9 @@ use Rattle.std.specs.List.{All, Contains, range_with_len, count_by, flat_map}
 use Rattle.morris_board.specs.Sets.{has, members, count_of}
 use Rattle.morris_board.specs.Boards.{Shape}
 use Rattle.morris_board.specs.Positions.{Sides, sides, IsApart, IsPosition, is_sized}
-use Rattle.morris_moves.specs.declared.step.Move.{Move}
+use Rattle.morris_moves.specs.declared.game_move.Move.{Move}
 use Rattle.morris_moves.specs.Order.{Precedes, takes_before}
-use Rattle.morris_moves.specs.Rules.{moved, is_vacant, move, is_legal, left_of, moves_of, result_of}
+use Rattle.morris_moves.specs.Rules.{move_stone, is_vacant, move, is_legal, left_of, moves_of, result_of}
 use Rattle.morris_moves.proofs.ListLaws.{Ascends, Contains-head, Contains-map, Contains-map_cases, Contains-flat_map, Contains-flat_map_cases, Ascends-flat_map, Ascends-map, length-flat_map_le}
 use Rattle.morris_moves.proofs.SetLaws.{has-member, member-has, Ascends-members}
 use Rattle.morris_moves.proofs.LegalLaws.{IsLegalMove, listed_move, listed_is_legal, legal_is_listed}
@@ -24,8 +24,8 @@ use Rattle.morris_index.proofs.ResultLaws.{is_of-quiet}
 use Rattle.morris_wave.specs.Nets.{times}
 use Rattle.morris_pairs.specs.Orders.{Full}
 use Rattle.morris_pairs.specs.PairNets.{at_index, is_quiet, quiet_results, net_in}
-use Rattle.morris_moves.specs.Backward.{before, has_come}
-use Rattle.morris_pairs.specs.Backward.{moves_into, moves_before}
+use Rattle.morris_moves.specs.Backward.{unmove, has_come}
+use Rattle.morris_pairs.specs.Predecessors.{moves_into, unmoves_to}
 use Rattle.morris_pairs.specs.FilterLaws.{filter-contains, contained-filter, range_bounds}
 use Rattle.morris_pairs.proofs.BackLawsLists.{Contains-range, Ascends-range, Ascends-filter, Ascends-weaker, Ascends-from_AllPairs, counted, found, at_most_one, count_by-map, one_each}
 use Rattle.morris_moves.proofs.BackLaws.{moved_here, moved_gone, moved_back, vacant_parts, vacant_from, IsApart-before, count_of-before_own, count_of-before_other}
@@ -34,7 +34,7 @@ use Rattle.morris_pairs.proofs.BackLawsNodes.{IsIndexed, at_index-indexed, index
 
 -- the positions before these moves, by their indices in the pair, on n points
 unfoldable pub indices_before : ℕ → Counts → Sides → List Move → List ℕ
-indices_before n c s moves = map (λ m. index_of n c (before s m)) moves
+indices_before n c s moves = map (λ m. index_of n c (unmove s m)) moves
 
 -- ---- the quiet moves that led to a position
 
@@ -54,14 +54,14 @@ pub record HasLed (b : Shape) (q : Sides) (m : Move) : Type 0 where
   pub end : has q.other m.to ≡ true
   pub quiet : m.taken ≡ None
   pub vacant : is_vacant q m.from ≡ true
-  pub legal : is_legal b (before q m) m ≡ true
+  pub legal : is_legal b (unmove q m) m ≡ true
 
 module _ (b : Shape) (q : Sides) where
   abbrev pub all_before : List Move
-  all_before = moves_before b q b.points (members q.other)
+  all_before = unmoves_to b q b.points (members q.other)
 
   pub led : (m : Move) → Contains all_before m → HasLed b q m
-  unfolding moves_before moves_into has_come
+  unfolding unmoves_to moves_into has_come
   led m k =
       let r = Contains-flat_map_cases (λ v. moves_into b q v b.points) (members q.other) m k in
       let f = filter-contains (has_come b q) (map (λ u. move u r.0 None) (range_with_len 0 b.points)) m r.2 in
@@ -69,7 +69,7 @@ module _ (b : Shape) (q : Sides) where
       let low = range_bounds 0 b.points t.0 t.1 in
       let from : t.0 ≡ m.from = ap (λ (x : Move). x.from) t.2 in
       let to : r.0 ≡ m.to = ap (λ (x : Move). x.to) t.2 in
-      let parts = and_parts (is_vacant q m.from) (is_legal b (before q m) m) f.1 in
+      let parts = and_parts (is_vacant q m.from) (is_legal b (unmove q m) m) f.1 in
       record {
         start = omega arith;
         end = subst (λ p. has q.other p ≡ true) to (has-member q.other r.0 r.1);
@@ -79,20 +79,20 @@ module _ (b : Shape) (q : Sides) where
       }
 
   pub led-listed : (m : Move) → m.to < 32 → HasLed b q m → Contains all_before m
-  unfolding moves_before moves_into has_come
+  unfolding unmoves_to moves_into has_come
   led-listed m low h =
       let same : move m.from m.to None ≡ m = ap (λ t. move m.from m.to t) (sym h.quiet) in
       Contains-flat_map (λ v. moves_into b q v b.points) (members q.other) m.to m (member-has q.other m.to low h.end)
       (contained-filter (has_come b q) (map (λ u. move u m.to None) (range_with_len 0 b.points)) m
       (subst (λ x. Contains (map (λ u. move u m.to None) (range_with_len 0 b.points)) x) same
       (Contains-map (λ u. move u m.to None) (range_with_len 0 b.points) m.from (Contains-range 0 b.points m.from (omega arith) (omega (arith, h.start)))))
-      (and_from (is_vacant q m.from) (is_legal b (before q m) m) h.vacant h.legal))
+      (and_from (is_vacant q m.from) (is_legal b (unmove q m) m) h.vacant h.legal))
 
   abbrev Apart : Move → Move → Type 0
   Apart m k = m ≡ k → ⊥
 
   pub moves_before_differ : Ascends Apart all_before
-  unfolding moves_before moves_into
+  unfolding unmoves_to moves_into
   moves_before_differ =
       Ascends-flat_map (λ x y. x < y) Apart (λ v. moves_into b q v b.points) (members q.other) (Ascends-members q.other)
       (λ v. Ascends-filter Apart (has_come b q) (map (λ u. move u v None) (range_with_len 0 b.points))
@@ -169,15 +169,15 @@ module _ (b : Shape) (small : b.points ≤ 24) (c : Counts) (pair : IsPair b.poi
     unfolding result_of
     leads-own s m l = ap (λ t. left_of s.other t) (sym l.quiet) ∙ ap (λ (x : Sides). x.own) l.result
 
-    pub leads-other : (s : Sides) (m : Move) → LeadsTo s m → moved s.own m.from m.to ≡ q.other
+    pub leads-other : (s : Sides) (m : Move) → LeadsTo s m → move_stone s.own m.from m.to ≡ q.other
     unfolding result_of
     leads-other s m l = ap (λ (x : Sides). x.other) l.result
 
-    pub leads-before : (s : Sides) (m : Move) → LeadsTo s m → before q m ≡ s
-    unfolding before
+    pub leads-before : (s : Sides) (m : Move) → LeadsTo s m → unmove q m ≡ s
+    unfolding unmove
     leads-before s m l =
         ap₂ sides
-        (ap (λ o. moved o m.to m.from) (sym (leads-other s m l)) ∙ moved_back s.own m.from m.to l.move.from_own l.move.to_not_own)
+        (ap (λ o. move_stone o m.to m.from) (sym (leads-other s m l)) ∙ moved_back s.own m.from m.to l.move.from_own l.move.to_not_own)
         (sym (leads-own s m l))
 
     pub leads-led : (s : Sides) → IsPlaced b.points s → (m : Move) → Contains (moves_of b s) m → LeadsTo s m → HasLed b q m
@@ -192,29 +192,29 @@ module _ (b : Shape) (small : b.points ≤ 24) (c : Counts) (pair : IsPair b.poi
     }
 
     -- the position before it, its place in the pair, and what it leads to
-    pub led-placed : (m : Move) → HasLed b q m → IsPlaced b.points (before q m)
+    pub led-placed : (m : Move) → HasLed b q m → IsPlaced b.points (unmove q m)
     led-placed m l = is_placed _ (IsApart-before b small q h m l.start l.vacant l.end)
 
-    pub led-of : (m : Move) → HasLed b q m → is_of c (before q m) ≡ true
-    led-of m l = is_of-quiet c q (before q m) of (count_of-before_own b small q h m l.start l.vacant l.end) (count_of-before_other b small q h m l.start l.vacant l.end)
+    pub led-of : (m : Move) → HasLed b q m → is_of c (unmove q m) ≡ true
+    led-of m l = is_of-quiet c q (unmove q m) of (count_of-before_own b small q h m l.start l.vacant l.end) (count_of-before_other b small q h m l.start l.vacant l.end)
 
-    pub led-moves : (m : Move) → HasLed b q m → Contains (moves_of b (before q m)) m
-    led-moves m l = legal_is_listed b (before q m) small (IsApart-before b small q h m l.start l.vacant l.end) m l.legal
+    pub led-moves : (m : Move) → HasLed b q m → Contains (moves_of b (unmove q m)) m
+    led-moves m l = legal_is_listed b (unmove q m) small (IsApart-before b small q h m l.start l.vacant l.end) m l.legal
 
-    pub led-result : (m : Move) → HasLed b q m → result_of (before q m) m ≡ q
-    unfolding result_of before
+    pub led-result : (m : Move) → HasLed b q m → result_of (unmove q m) m ≡ q
+    unfolding result_of unmove
     led-result m l =
         ap₂ sides (ap (λ t. left_of q.own t) l.quiet) (moved_back q.other m.to m.from l.end (vacant_parts q m.from l.vacant).1)
 
     -- ---- both lists count a move or none
 
     abbrev is_from : ℕ → Move → Bool
-    is_from j m = eqb (index_of b.points c (before q m)) j
+    is_from j m = eqb (index_of b.points c (unmove q m)) j
 
     abbrev is_to : Sides → Move → Bool
     is_to s m = eqb (index_of b.points c (result_of s m)) (index_of b.points c q)
 
-    indexed_before : (j : ℕ) (m : Move) → Contains (all_before b q) m → is_from j m ≡ true → IsIndexed b c j (before q m)
+    indexed_before : (j : ℕ) (m : Move) → Contains (all_before b q) m → is_from j m ≡ true → IsIndexed b c j (unmove q m)
     indexed_before j m k e =
         let l = led b q m k in
         record { placed = led-placed m l; of = led-of m l; index = eqb-true _ _ e }
@@ -227,7 +227,7 @@ module _ (b : Shape) (small : b.points ≤ 24) (c : Counts) (pair : IsPair b.poi
         same m k x y e f =
             let l = led b q m x in
             let r = led b q k y in
-            let one = indexed_same b c small j (before q m) (before q k) (indexed_before j m x e) (indexed_before j k y f) in
+            let one = indexed_same b c small j (unmove q m) (unmove q k) (indexed_before j m x e) (indexed_before j k y f) in
             let points = moved_same q.other m.to m.from l.end (vacant_parts q m.from l.vacant).1 k.to k.from r.end (vacant_parts q k.from r.vacant).1
             (before_mover q m k one) in
             alike m k points.1 points.0 l.quiet r.quiet
@@ -258,10 +258,10 @@ module _ (b : Shape) (small : b.points ≤ 24) (c : Counts) (pair : IsPair b.poi
         let r = found (is_from j) (all_before b q) h in
         let m = r.0 in
         let l = led b q m r.1 in (
-          before q m,
+          unmove q m,
           m,
           indexed_before j m r.1 r.2,
-          contained-filter is_quiet (moves_of b (before q m)) m (led-moves m l) (taken_quiet m l.quiet),
+          contained-filter is_quiet (moves_of b (unmove q m)) m (led-moves m l) (taken_quiet m l.quiet),
           eq-eqb _ _ (ap (index_of b.points c) (led-result m l)),
         )
 
@@ -278,7 +278,7 @@ module _ (b : Shape) (small : b.points ≤ 24) (c : Counts) (pair : IsPair b.poi
 
     count_before : (j : ℕ) → times j (indices_before b.points c q (all_before b q)) ≡ count_by (is_from j) (all_before b q)
     unfolding indices_before
-    count_before j = count_by-map (λ x. eqb x j) (λ m. index_of b.points c (before q m)) (all_before b q)
+    count_before j = count_by-map (λ x. eqb x j) (λ m. index_of b.points c (unmove q m)) (all_before b q)
 
     count_after : (s : Sides) → times (index_of b.points c q) (quiet_results b Full c s) ≡ count_by (is_to s) (filter is_quiet (moves_of b s))
     unfolding quiet_results
@@ -321,9 +321,9 @@ module _ (b : Shape) (small : b.points ≤ 24) (c : Counts) (pair : IsPair b.poi
     nodes_before =
         All-weaker _ (λ j. j < size_of b.points c)
         (λ j k.
-        let r = Contains-map_cases (λ m. index_of b.points c (before q m)) (all_before b q) j k in
+        let r = Contains-map_cases (λ m. index_of b.points c (unmove q m)) (all_before b q) j k in
         let l = led b q r.0 r.1 in
-        subst (λ x. x < size_of b.points c) r.2 (index-lt b.points c (omega arith) (before q r.0) (led-placed r.0 l) (led-of r.0 l)))
+        subst (λ x. x < size_of b.points c) r.2 (index-lt b.points c (omega arith) (unmove q r.0) (led-placed r.0 l) (led-of r.0 l)))
         _ (All-contains_itself (indices_before b.points c q (all_before b q)))
 
     few_into : (v : ℕ) → length (moves_into b q v b.points) ≤ 24
@@ -338,10 +338,10 @@ module _ (b : Shape) (small : b.points ≤ 24) (c : Counts) (pair : IsPair b.poi
 
     -- at most nine stones came from at most 24 points
     pub few_moves : length (all_before b q) ≤ 9 * 24
-    unfolding moves_before count_of
+    unfolding unmoves_to count_of
     few_moves =
         omega (arith, length-flat_map_le (λ v. moves_into b q v b.points) 24 (members q.other) few_into, (other_count q h.sized).1)
 
     pub few_before : length (indices_before b.points c q (all_before b q)) ≤ 9 * 24
     unfolding indices_before
-    few_before = omega (arith, length-map (all_before b q) (λ m. index_of b.points c (before q m)), few_moves)
+    few_before = omega (arith, length-map (all_before b q) (λ m. index_of b.points c (unmove q m)), few_moves)

@@ -9,19 +9,19 @@ use Rattle.morris_board.specs.Sets.{has, members}
 use Rattle.morris_board.specs.Boards.{Shape}
 use Rattle.morris_board.specs.Positions.{Sides, IsPosition}
 use Rattle.morris_board.specs.Symmetries.{HasSymmetries}
-use Rattle.morris_moves.specs.declared.step.Move.{Move}
-use Rattle.morris_moves.specs.Rules.{moved, move}
-use Rattle.morris_moves.specs.Backward.{before}
+use Rattle.morris_moves.specs.declared.game_move.Move.{Move}
+use Rattle.morris_moves.specs.Rules.{move_stone, move}
+use Rattle.morris_moves.specs.Backward.{unmove}
 use Rattle.morris_moves.proofs.ListLaws.{Contains-head}
 use Rattle.morris_moves.proofs.SetLaws.{has-member}
 use Rattle.morris_index.specs.Pairs.{Counts, IsPair, is_of, index_of}
-use Rattle.morris_index.specs.Moves.{taken_back}
+use Rattle.morris_index.specs.Moves.{unmove_sides}
 use Rattle.morris_wave.specs.Nets.{times}
-use Rattle.morris_index.specs.Carried.{entries_before}
-use Rattle.morris_pairs.specs.Orders.{Order, Full, Classes, Rows, ahead, count_in, index_in, own_in}
-use Rattle.morris_pairs.specs.EntryLaws.{led-classes, led-rows}
+use Rattle.morris_index.specs.Unmoves.{entry_predecessors}
+use Rattle.morris_pairs.specs.Orders.{Order, Full, Classes, Rows, to_first_half, count_in, index_in, own_in}
+use Rattle.morris_pairs.specs.EntryLaws.{canonical_form-classes, canonical_form-rows}
 use Rattle.morris_pairs.specs.PairNets.{net_in}
-use Rattle.morris_pairs.specs.Backward.{moves_into, moves_before, rows_before, leads_in, leading_in}
+use Rattle.morris_pairs.specs.Predecessors.{moves_into, unmoves_to, predecessors_in_rows, predecessors_by_in, predecessors_in}
 use Rattle.morris_pairs.proofs.BackLaws.{indices_before, times_before, nodes_before, few_before}
 use Rattle.morris_pairs.proofs.ClassBackLaws.{times_leads, nodes_leading, few_leading}
 
@@ -33,18 +33,18 @@ pub record AreLeading (o : Order) (b : Shape) (n : ℕ) (c : Counts) (p : Sides)
   pub few : length xs ≤ 9 * 24 * b.symmetries
 
 -- where each position has an entry, the entry before a move is that of the one position before it
-by_index : (b : Shape) (n : ℕ) (c : Counts) (p : Sides) (moves : List Move) → indices_before n c p moves ≡ leading_in Full b n c p moves
-unfolding indices_before leading_in before moved
-by_index b n c p moves = sym (flat_map_single (λ m. index_of n c (taken_back p m.from m.to)) moves)
+by_index : (b : Shape) (n : ℕ) (c : Counts) (p : Sides) (moves : List Move) → indices_before n c p moves ≡ predecessors_in Full b n c p moves
+unfolding indices_before predecessors_in unmove move_stone
+by_index b n c p moves = sym (flat_map_single (λ m. index_of n c (unmove_sides p m.from m.to)) moves)
 
 are_leading : (o : Order) (b : Shape) (n : ℕ) → b.points ≡ n → n ≤ 24 → HasSymmetries b → (c : Counts) → IsPair n c → (p : Sides) → IsPosition b p → is_of c p ≡ true
-    → own_in b o p ≡ true → AreLeading o b n c p (leading_in o b n c p (moves_before b p n (members p.other)))
-unfolding leading_in entries_before rows_before
+    → own_in b o p ≡ true → AreLeading o b n c p (predecessors_in o b n c p (unmoves_to b p n (members p.other)))
+unfolding predecessors_in entry_predecessors predecessors_in_rows
 are_leading Full b n e small y c pair p h of own =
     let low : b.points ≤ 24 = omega (arith, e, small) in
     let same : IsPair b.points c = subst (λ k. IsPair k c) (sym e) pair in
-    subst (λ k. AreLeading Full b k c p (leading_in Full b k c p (moves_before b p k (members p.other)))) e
-    (subst (AreLeading Full b b.points c p) (by_index b b.points c p (moves_before b p b.points (members p.other)))
+    subst (λ k. AreLeading Full b k c p (predecessors_in Full b k c p (unmoves_to b p k (members p.other)))) e
+    (subst (AreLeading Full b b.points c p) (by_index b b.points c p (unmoves_to b p b.points (members p.other)))
     (record {
       often = times_before b low c same p h of;
       nodes = nodes_before b low c same p h of;
@@ -53,8 +53,8 @@ are_leading Full b n e small y c pair p h of own =
 are_leading Classes b n e small y c pair p h of own =
     let low : b.points ≤ 24 = omega (arith, e, small) in
     let same : IsPair b.points c = subst (λ k. IsPair k c) (sym e) pair in
-    let laws = led-classes b low y c in
-    subst (λ k. AreLeading Classes b k c p (leading_in Classes b k c p (moves_before b p k (members p.other)))) e
+    let laws = canonical_form-classes b low y c in
+    subst (λ k. AreLeading Classes b k c p (predecessors_in Classes b k c p (unmoves_to b p k (members p.other)))) e
     (record {
       often = times_leads b low y c same Classes (λ s. s) laws p h of own;
       nodes = nodes_leading b low y c same Classes (λ s. s) laws p h of own;
@@ -63,46 +63,46 @@ are_leading Classes b n e small y c pair p h of own =
 are_leading Rows b n e small y c pair p h of own =
     let low : b.points ≤ 24 = omega (arith, e, small) in
     let same : IsPair b.points c = subst (λ k. IsPair k c) (sym e) pair in
-    let laws = led-rows b low y c same in
-    subst (λ k. AreLeading Rows b k c p (leading_in Rows b k c p (moves_before b p k (members p.other)))) e
+    let laws = canonical_form-rows b low y c same in
+    subst (λ k. AreLeading Rows b k c p (predecessors_in Rows b k c p (unmoves_to b p k (members p.other)))) e
     (record {
-      often = times_leads b low y c same Rows ahead laws p h of own;
-      nodes = nodes_leading b low y c same Rows ahead laws p h of own;
-      few = few_leading b low y c same Rows ahead laws p h of own;
+      often = times_leads b low y c same Rows to_first_half laws p h of own;
+      nodes = nodes_leading b low y c same Rows to_first_half laws p h of own;
+      few = few_leading b low y c same Rows to_first_half laws p h of own;
     })
 
 -- ---- the loops over the points
 
 module _ (o : Order) (b : Shape) (n : ℕ) (c : Counts) (p : Sides) where
-  pub leading_none : leading_in o b n c p (moves_before b p n []) ≡ []
-  unfolding leading_in moves_before
+  pub leading_none : predecessors_in o b n c p (unmoves_to b p n []) ≡ []
+  unfolding predecessors_in unmoves_to
   leading_none = refl
 
-  pub leading_more : (vs : List ℕ) (v : ℕ) → leading_in o b n c p (moves_before b p n vs) ++ leading_in o b n c p (moves_into b p v n)
-      ≡ leading_in o b n c p (moves_before b p n (vs ++ v ∷ []))
-  unfolding leading_in moves_before
+  pub leading_more : (vs : List ℕ) (v : ℕ) → predecessors_in o b n c p (unmoves_to b p n vs) ++ predecessors_in o b n c p (moves_into b p v n)
+      ≡ predecessors_in o b n c p (unmoves_to b p n (vs ++ v ∷ []))
+  unfolding predecessors_in unmoves_to
   leading_more vs v =
-      sym (flat_map-append (λ (m : Move). leads_in o b n c p m.from m.to) (flat_map (λ k. moves_into b p k n) vs) (moves_into b p v n))
-      ∙ ap (flat_map (λ (m : Move). leads_in o b n c p m.from m.to)) (flat_map_more (λ k. moves_into b p k n) [] vs v)
+      sym (flat_map-append (λ (m : Move). predecessors_by_in o b n c p m.from m.to) (flat_map (λ k. moves_into b p k n) vs) (moves_into b p v n))
+      ∙ ap (flat_map (λ (m : Move). predecessors_by_in o b n c p m.from m.to)) (flat_map_more (λ k. moves_into b p k n) [] vs v)
 
-  pub leading_into_none : (v : ℕ) → leading_in o b n c p (map (λ u. move u v None) []) ≡ []
-  unfolding leading_in
+  pub leading_into_none : (v : ℕ) → predecessors_in o b n c p (map (λ u. move u v None) []) ≡ []
+  unfolding predecessors_in
   leading_into_none v = refl
 
-  pub leading_into_more : (us : List ℕ) (u v : ℕ) → leading_in o b n c p (map (λ u. move u v None) us) ++ leads_in o b n c p u v
-      ≡ leading_in o b n c p (map (λ u. move u v None) (us ++ u ∷ []))
-  unfolding leading_in
+  pub leading_into_more : (us : List ℕ) (u v : ℕ) → predecessors_in o b n c p (map (λ u. move u v None) us) ++ predecessors_by_in o b n c p u v
+      ≡ predecessors_in o b n c p (map (λ u. move u v None) (us ++ u ∷ []))
+  unfolding predecessors_in
   leading_into_more us u v =
-      sym (ap (flat_map (λ (m : Move). leads_in o b n c p m.from m.to)) (map-append (λ u. move u v None) us (u ∷ []))
-      ∙ flat_map-append (λ (m : Move). leads_in o b n c p m.from m.to) (map (λ u. move u v None) us) (move u v None ∷ [])
-      ∙ ap (λ xs. flat_map (λ (m : Move). leads_in o b n c p m.from m.to) (map (λ u. move u v None) us) ++ xs) (append-nil (leads_in o b n c p u v)))
+      sym (ap (flat_map (λ (m : Move). predecessors_by_in o b n c p m.from m.to)) (map-append (λ u. move u v None) us (u ∷ []))
+      ∙ flat_map-append (λ (m : Move). predecessors_by_in o b n c p m.from m.to) (map (λ u. move u v None) us) (move u v None ∷ [])
+      ∙ ap (λ xs. flat_map (λ (m : Move). predecessors_by_in o b n c p m.from m.to) (map (λ u. move u v None) us) ++ xs) (append-nil (predecessors_by_in o b n c p u v)))
 
 -- among all positions, they are the indices of those before the moves
 pub leading_by_index : (b : Shape) (n : ℕ) (c : Counts) (p : Sides) (v : ℕ) (us : List ℕ)
-    → map (λ u. index_of n c (taken_back p u v)) us ≡ leading_in Full b n c p (map (λ u. move u v None) us)
-unfolding leading_in
+    → map (λ u. index_of n c (unmove_sides p u v)) us ≡ predecessors_in Full b n c p (map (λ u. move u v None) us)
+unfolding predecessors_in
 leading_by_index b n c p v [] = refl
-leading_by_index b n c p v (u ∷ us) = ap (λ (xs : List ℕ). index_of n c (taken_back p u v) ∷ xs) (leading_by_index b n c p v us)
+leading_by_index b n c p v (u ∷ us) = ap (λ (xs : List ℕ). index_of n c (unmove_sides p u v) ∷ xs) (leading_by_index b n c p v us)
 
 -- ---- going through the points of a set: a point of it, those so far with it, and all of them
 
@@ -120,7 +120,7 @@ none_left ys left whole split none = sym (append-nil ys) ∙ (ap (λ zs. ys ++ z
 pub all_leading : (o : Order) (b : Shape) (n : ℕ) → b.points ≡ n → n ≤ 24 → HasSymmetries b → (c : Counts) → IsPair n c → (p : Sides) → IsPosition b p → is_of c p ≡ true
     → own_in b o p ≡ true
     → (ys : List ℕ) (rest : ℕ) → ys ++ members rest ≡ members p.other → members rest ≡ []
-    → AreLeading o b n c p (leading_in o b n c p (moves_before b p n ys))
+    → AreLeading o b n c p (predecessors_in o b n c p (unmoves_to b p n ys))
 all_leading o b n e small y c pair p h of own ys rest points none =
     let each = none_left ys (members rest) _ points none in
-    subst (λ zs. AreLeading o b n c p (leading_in o b n c p (moves_before b p n zs))) (sym each) (are_leading o b n e small y c pair p h of own)
+    subst (λ zs. AreLeading o b n c p (predecessors_in o b n c p (unmoves_to b p n zs))) (sym each) (are_leading o b n e small y c pair p h of own)

@@ -9,7 +9,7 @@ use Rattle.morris_moves.specs.Rules.{is_vacant, move}
 use Rattle.morris_moves.proofs.SetLaws.{lt_from_points}
 use Rattle.morris_index.proofs.RankLaws.{members-passing}
 use Rattle.morris_moves.specs.Backward.{has_come}
-use Rattle.morris_pairs.specs.Backward.{moves_into}
+use Rattle.morris_pairs.specs.Predecessors.{moves_into}
 
 -- ---- the moves from these points
 

@@ -7,7 +7,7 @@ use Rattle.morris_wave.specs.Values.{IsTooDeep}
 use Rattle.morris_wave.specs.declared.sweeping.SweepFault.{SweepFault}
 use Rattle.morris_wave.specs.declared.sweeping.SweepFault.TheVariants as sweep
 use Rattle.morris_pairs.specs.declared.layout.Layout.TheVariants.{Full}
-use Rattle.morris_pairs.specs.Building.{IsUnswept, swept}
+use Rattle.morris_pairs.specs.Building.{IsUnswept, build_fault_of}
 use Rattle.morris_pairs.specs.Known.{IsBeyondCodes}
 use Rattle.morris_pairs.specs.PairNets.{level_of, net_at}
 use Rattle.morris_pairs.specs.Shelves.{Stored, first_missing}
@@ -19,6 +19,6 @@ err_of (Err y) P e h p = subst P (sym h) p
 
 module _ (B : Type 0) (board : Shape) (shelf : Stored) (c : Counts) where
   pub refused_by_sweep : (fault : SweepFault) → first_missing shelf c ≡ None → (IsTooDeep (net_at board (level_of Full c)) → IsBeyondCodes board c)
-      → (fault ≡ sweep.TooDeep → IsTooDeep (net_at board (level_of Full c))) → IsUnswept {B = B} board shelf c (swept fault)
+      → (fault ≡ sweep.TooDeep → IsTooDeep (net_at board (level_of Full c))) → IsUnswept {B = B} board shelf c (build_fault_of fault)
   refused_by_sweep sweep.TooDeep ready deep h = (ready, record { too_deep = h refl; beyond = deep (h refl) })
   refused_by_sweep sweep.Memory ready deep h = ready

@@ -8,26 +8,26 @@ use Rattle.morris_board.specs.Sets.{has, members, count_of}
 use Rattle.morris_board.specs.Boards.{Shape}
 use Rattle.morris_board.specs.Positions.{Sides, IsPosition}
 use Rattle.morris_board.proofs.PointsLaws.{has-none, has-set_where, same_points, first_is, members-none}
-use Rattle.morris_moves.specs.declared.step.Move.{Move}
-use Rattle.morris_moves.specs.Rules.{closes, goes, reach, is_vacant, takable, free_stones, is_legal, move, moves_of, result_of, takes_rightly}
+use Rattle.morris_moves.specs.declared.game_move.Move.{Move}
+use Rattle.morris_moves.specs.Rules.{closes, goes, reach, is_vacant, takable_stones, free_stones, is_legal, move, moves_of, result_of, takes_rightly}
 use Rattle.morris_moves.proofs.ListLaws.{any_contained, contained_any, Contains-head, Contains-tail, Contains-map, Contains-map_cases, Contains-flat_map, Contains-flat_map_cases}
 use Rattle.morris_moves.proofs.LegalLaws.{reached, takable_is_other, listed_is_legal, legal_is_listed, listed_move}
 use Rattle.morris_moves.proofs.ResultLaws.{count_of-capture}
 use Rattle.morris_moves.proofs.SetLaws.{point_lt, lt_from_points, has-member, member-has}
 use Rattle.morris_board.proofs.PositionLaws.{other_count}
-use Rattle.morris_wave.specs.declared.network.Exits.{Exits}
-use Rattle.morris_wave.specs.Exits.{exits_of, no_exits, least, greatest, depths, is_odd, is_won_code}
+use Rattle.morris_wave.specs.declared.graph.Exits.{Exits}
+use Rattle.morris_wave.specs.Exits.{exits_of, no_exits, minimum, maximum, depths, is_odd, is_won_code}
 use Rattle.morris_pairs.specs.declared.rows.Row.{Row}
 use Rattle.morris_pairs.specs.Codes.{IsCodeOf, code_to}
 use Rattle.morris_pairs.specs.PairNets.{is_capture, capture_codes}
 use Rattle.morris_pairs.specs.Graphs.{exits_by}
-use Rattle.morris_pairs.specs.KeptCaptures.{open_ends, closers_at}
+use Rattle.morris_pairs.specs.CaptureCaches.{open_ends, closers_at}
 use Rattle.morris_pairs.specs.Rows.{may_close, is_closing_end, IsRow}
 use Rattle.morris_pairs.specs.Captured.{IsClosing, captures_at, captures_to}
 use Rattle.morris_pairs.specs.FilterLaws.{filter-contains, contained-filter}
 use Rattle.morris_pairs.proofs.SummaryLaws.{IsAmong, images_among, exits_of-same}
 use Rattle.morris_pairs.specs.NetLaws.{is_none-false}
-use Rattle.morris_wave.specs.Summaries.{added}
+use Rattle.morris_wave.specs.Summaries.{add_code}
 use Rattle.morris_pairs.proofs.CodeLaws.{code_of_stuck, code_to-is}
 use Rattle.morris_pairs.proofs.GraphLaws.{exits_by-capture}
 use Rattle.morris_pairs.proofs.RowLaws.{has_reach, may_close-all}
@@ -35,7 +35,7 @@ use Rattle.morris_pairs.proofs.RowLaws.{has_reach, may_close-all}
 -- ---- a capture is legal
 
 pub capture_is_legal : (b : Shape) (s : Sides) (u v t : ℕ) → has s.own u ≡ true → has (reach b s u) v ≡ true → closes b s.own u v ≡ true
-    → has (takable b s.other) t ≡ true → is_legal b s (move u v (Some t)) ≡ true
+    → has (takable_stones b s.other) t ≡ true → is_legal b s (move u v (Some t)) ≡ true
 unfolding is_legal
 capture_is_legal b s u v t own goes shuts takes = and_from _ _ own (and_from _ _ goes (and_from _ _ shuts takes))
 
@@ -48,15 +48,15 @@ legal_capture b s m legal takes =
   where
     at : (o : Option ℕ) → not (is_none o) ≡ true → takes_rightly b s m.from m.to o ≡ true → closes b s.own m.from m.to ≡ true
     at None e h = absurd (both_ways false refl e)
-    at (Some t) e h = (and_parts (closes b s.own m.from m.to) (has (takable b s.other) t) h).0
+    at (Some t) e h = (and_parts (closes b s.own m.from m.to) (has (takable_stones b s.other) t) h).0
 
-pub legal_takes : (b : Shape) (s : Sides) (m : Move) (t : ℕ) → m.taken ≡ Some t → is_legal b s m ≡ true → has (takable b s.other) t ≡ true
+pub legal_takes : (b : Shape) (s : Sides) (m : Move) (t : ℕ) → m.taken ≡ Some t → is_legal b s m ≡ true → has (takable_stones b s.other) t ≡ true
 unfolding is_legal
 legal_takes b s m t e legal =
     let parts = and_parts (has s.own m.from) (has (reach b s m.from) m.to && takes_rightly b s m.from m.to m.taken) legal in
     let more = and_parts (has (reach b s m.from) m.to) (takes_rightly b s m.from m.to m.taken) parts.1 in
     let rightly : takes_rightly b s m.from m.to (Some t) ≡ true = subst (λ o. takes_rightly b s m.from m.to o ≡ true) e more.1 in
-    (and_parts (closes b s.own m.from m.to) (has (takable b s.other) t) rightly).1
+    (and_parts (closes b s.own m.from m.to) (has (takable_stones b s.other) t) rightly).1
 
 -- ---- some stone may be taken
 
@@ -64,8 +64,8 @@ pub empty_count : (s : ℕ) → s ≡ 0 → count_of s ≡ 0
 unfolding count_of
 empty_count s e = ap (λ t. length (members t)) e ∙ ap length members-none
 
-takable_some : (b : Shape) (s : Sides) → IsPosition b s → 0 < takable b s.other
-unfolding takable
+takable_some : (b : Shape) (s : Sides) → IsPosition b s → 0 < takable_stones b s.other
+unfolding takable_stones
 takable_some b s h = elim (cases_Bool (eqb (free_stones b s.other) 0)) [
   | inl none ↦
       let stones = other_count s h.sized in
@@ -79,8 +79,8 @@ takable_some b s h = elim (cases_Bool (eqb (free_stones b s.other) 0)) [
   ])
 ]
 
-pub takable-lt : (b : Shape) (s : Sides) → b.points ≤ 24 → IsPosition b s → takable b s.other < 2 ^ 32
-takable-lt b s few h = lt_from_points (takable b s.other) 32 (λ p here.
+pub takable_stones-lt : (b : Shape) (s : Sides) → b.points ≤ 24 → IsPosition b s → takable_stones b s.other < 2 ^ 32
+takable_stones-lt b s few h = lt_from_points (takable_stones b s.other) 32 (λ p here.
     omega (arith, point_lt s.other b.points p h.stones.other_within (takable_is_other b s.other p here)))
 
 -- the captures that are kept: by the stone that is taken, then by the point that the move goes to
@@ -202,7 +202,7 @@ module _ (b : Shape) (n : ℕ) (points : b.points ≡ n) (low : n ≤ 24) (s : S
   captures_some some =
       let v = first_is ends some (lt_from_points ends 32 (λ p here. omega (arith, low, open_low p here))) in
       let one = some_closer _ v.here in
-      let taken = first_is (takable b s.other) (takable_some b s lawful) (takable-lt b s few lawful) in
+      let taken = first_is (takable_stones b s.other) (takable_some b s lawful) (takable_stones-lt b s few lawful) in
       contained_any is_capture (moves_of b s) (move one.0 _ (Some _))
       (legal_is_listed b s few lawful.stones _ (capture_is_legal b s one.0 _ _ one.1.own one.1.goes one.1.shuts taken.here)) refl
 
@@ -237,26 +237,26 @@ module _ (b : Shape) (n : ℕ) (points : b.points ≡ n) (low : n ≤ 24) (s : S
     pub closers_close : (u v : ℕ) → has ends v ≡ true → has (slice_index row.closers v) u ≡ true → IsClosing b s u v
     closers_close u v here h = open_closes v here u (subst (λ k. has k u ≡ true) (closers_are v (open_low v here)) h)
 
-    kept_legal : (m : Move) → Contains (kept_captures row ends (members (takable b s.other))) m → is_legal b s m ≡ true
+    kept_legal : (m : Move) → Contains (kept_captures row ends (members (takable_stones b s.other))) m → is_legal b s m ≡ true
     kept_legal m c =
-        let of_taken = Contains-flat_map_cases (λ t. captures_to row.closers t (members ends)) (members (takable b s.other)) m c in
+        let of_taken = Contains-flat_map_cases (λ t. captures_to row.closers t (members ends)) (members (takable_stones b s.other)) m c in
         let to_end = Contains-flat_map_cases (λ v. captures_at of_taken.0 (slice_index row.closers v) v) (members ends) m of_taken.2 in
         let by = Contains-map_cases (λ u. move u to_end.0 (Some of_taken.0)) (members (slice_index row.closers to_end.0)) m to_end.2 in
         let closing = closers_close by.0 to_end.0 (has-member ends to_end.0 to_end.1) (has-member (slice_index row.closers to_end.0) by.0 by.1) in
         subst (λ k. is_legal b s k ≡ true) by.2
-        (capture_is_legal b s by.0 to_end.0 of_taken.0 closing.own closing.goes closing.shuts (has-member (takable b s.other) of_taken.0 of_taken.1))
+        (capture_is_legal b s by.0 to_end.0 of_taken.0 closing.own closing.goes closing.shuts (has-member (takable_stones b s.other) of_taken.0 of_taken.1))
 
-    legal_kept : (m : Move) → is_legal b s m ≡ true → is_capture m ≡ true → Contains (kept_captures row ends (members (takable b s.other))) m
+    legal_kept : (m : Move) → is_legal b s m ≡ true → is_capture m ≡ true → Contains (kept_captures row ends (members (takable_stones b s.other))) m
     legal_kept m legal takes =
         let closing = legal_capture b s m legal takes in
         let inside : m.to < n = closing_in m.from m.to closing in
         let closer = subst (λ k. has k m.from ≡ true) (sym (closers_are m.to inside)) (closing_closer m.from m.to closing) in
         let t = is_none-false m.taken (not-true (is_none m.taken) takes) in
-        let taken : has (takable b s.other) t.0 ≡ true = legal_takes b s m t.0 t.1 legal in
+        let taken : has (takable_stones b s.other) t.0 ≡ true = legal_takes b s m t.0 t.1 legal in
         let same : move m.from m.to (Some t.0) ≡ m = ap (λ o. move m.from m.to o) (sym t.1) in
-        subst (Contains (kept_captures row ends (members (takable b s.other)))) same
-        (Contains-flat_map (λ t. captures_to row.closers t (members ends)) (members (takable b s.other)) t.0 _
-        (member-has (takable b s.other) t.0 (omega (arith, points, point_lt s.other b.points t.0 lawful.stones.other_within (takable_is_other b s.other t.0 taken))) taken)
+        subst (Contains (kept_captures row ends (members (takable_stones b s.other)))) same
+        (Contains-flat_map (λ t. captures_to row.closers t (members ends)) (members (takable_stones b s.other)) t.0 _
+        (member-has (takable_stones b s.other) t.0 (omega (arith, points, point_lt s.other b.points t.0 lawful.stones.other_within (takable_is_other b s.other t.0 taken))) taken)
         (Contains-flat_map (λ v. captures_at t.0 (slice_index row.closers v) v) (members ends) m.to _
         (member-has ends m.to (omega (arith, inside)) (closing_open m.from m.to closing))
         (Contains-map (λ u. move u m.to (Some t.0)) (members (slice_index row.closers m.to)) m.from
@@ -264,18 +264,18 @@ module _ (b : Shape) (n : ℕ) (points : b.points ≡ n) (low : n ≤ 24) (s : S
         (omega (arith, points, point_lt s.own b.points m.from lawful.stones.own_within closing.own)) closer))))
 
     -- their summary is that of all captures
-    pub kept_suffice : (set : ℕ) → set ≡ ends → exits_by b s (kept_captures row set (members (takable b s.other))) ≡ exits_of (capture_codes b s)
+    pub kept_suffice : (set : ℕ) → set ≡ ends → exits_by b s (kept_captures row set (members (takable_stones b s.other))) ≡ exits_of (capture_codes b s)
     unfolding exits_by capture_codes
     kept_suffice set e = rw e (
         let code : Move → ℕ = λ m. code_to 65534 b (result_of s m) in
-        let kept = kept_captures row ends (members (takable b s.other)) in
-        let there : IsAmong (filter is_capture kept) (filter is_capture (moves_of b s)) = λ m c.
-        let at = filter-contains is_capture kept m c in
+        let cache = kept_captures row ends (members (takable_stones b s.other)) in
+        let there : IsAmong (filter is_capture cache) (filter is_capture (moves_of b s)) = λ m c.
+        let at = filter-contains is_capture cache m c in
         contained-filter is_capture (moves_of b s) m (legal_is_listed b s few lawful.stones m (kept_legal m at.0)) at.1 in
-        let back : IsAmong (filter is_capture (moves_of b s)) (filter is_capture kept) = λ m c.
+        let back : IsAmong (filter is_capture (moves_of b s)) (filter is_capture cache) = λ m c.
         let at = filter-contains is_capture (moves_of b s) m c in
-        contained-filter is_capture kept m (legal_kept m (listed_is_legal b s few lawful.stones m at.0) at.1) at.1 in
-        exits_of-same (map code (filter is_capture kept)) (map code (filter is_capture (moves_of b s)))
+        contained-filter is_capture cache m (legal_kept m (listed_is_legal b s few lawful.stones m at.0) at.1) at.1 in
+        exits_of-same (map code (filter is_capture cache)) (map code (filter is_capture (moves_of b s)))
         (images_among code _ _ there) (images_among code _ _ back))
 
 -- ---- a summary that goes on
@@ -291,9 +291,9 @@ module _ (b : Shape) (s : Sides) (known : Exits) where
   -- by the capture of a stone, one move more
   pub goes_capture : (exits : Exits) (u v t code : ℕ) (us : List ℕ) → GoesOn exits (map (λ x. move x v (Some t)) us)
       → IsCodeOf b (result_of s (move u v (Some t))) code → code ≤ 65535
-      → GoesOn (added exits code) (map (λ x. move x v (Some t)) (us ++ u ∷ []))
+      → GoesOn (add_code exits code) (map (λ x. move x v (Some t)) (us ++ u ∷ []))
   goes_capture exits u v t code us before is few done e =
-      ap (λ x. added x code) (before done e)
+      ap (λ x. add_code x code) (before done e)
       ∙ (sym (exits_by-capture b s (done ++ map (λ x. move x v (Some t)) us) (move u v (Some t)) refl code is few)
       ∙ ap (exits_by b s) (append_assoc done _ _ ∙ ap (λ xs. done ++ xs) (sym (map-append (λ x. move x v (Some t)) us (u ∷ [])))))
 
@@ -341,8 +341,8 @@ ones f (m ∷ ms) each h = elim (cases_Bool (is_capture m)) [
   where
     first : (cs : List ℕ) → exits_of cs ≡ lost_at_once → exits_of (1 ∷ cs) ≡ lost_at_once
     first cs e =
-        let lost : least (depths is_odd cs) ≡ Some 0 = ap (λ (x : Exits). x.least_lost) e in
-        let won : greatest (depths is_won_code cs) ≡ None = ap (λ (x : Exits). x.greatest_won) e in
+        let lost : minimum (depths is_odd cs) ≡ Some 0 = ap (λ (x : Exits). x.least_lost) e in
+        let won : maximum (depths is_won_code cs) ≡ None = ap (λ (x : Exits). x.greatest_won) e in
         let drawn : list_any (λ c. eqb c 0) cs ≡ false = ap (λ (x : Exits). x.drawn) e in
         rw (lost, won, drawn) refl
 

@@ -12,27 +12,27 @@ use Rattle.morris_board.specs.Positions.{Sides, IsPosition}
 use Rattle.morris_board.specs.Symmetries.{image_of, image_sides, inverse_of, HasSymmetries}
 use Rattle.morris_board.specs.SymmetryLaws.{below}
 use Rattle.morris_board.proofs.ImageLaws.{IsOneToOne, one_to_one, IsSymmetry-back, count_of-image, IsPosition-image, image_sides-undone, image_of-undone}
-use Rattle.morris_moves.specs.declared.step.Move.{Move}
-use Rattle.morris_moves.specs.Rules.{moves_of, result_of, moved}
-use Rattle.morris_moves.specs.Backward.{before}
+use Rattle.morris_moves.specs.declared.game_move.Move.{Move}
+use Rattle.morris_moves.specs.Rules.{moves_of, result_of, move_stone}
+use Rattle.morris_moves.specs.Backward.{unmove}
 use Rattle.morris_moves.proofs.LegalLaws.{IsLegalMove, listed_move}
 use Rattle.morris_moves.proofs.ListLaws.{contained_all, Ascends, Contains-head, Contains-map_cases, Contains-flat_map_cases, length-flat_map_le}
 use Rattle.morris_moves.proofs.ResultLaws.{IsPosition-result, count_of-mover, count_of-quiet}
 use Rattle.morris_moves.proofs.SymmetryLaws.{image_move, listed_goes, result_of-image, taken_within}
 use Rattle.morris_index.specs.Pairs.{Counts, IsPair, is_of}
-use Rattle.morris_index.specs.Classes.{is_leading, symmetry_of, representative_of}
-use Rattle.morris_index.specs.Moves.{taken_back}
-use Rattle.morris_index.specs.Carried.{carries}
+use Rattle.morris_index.specs.Classes.{is_canonicalizing, symmetry_of, representative_of}
+use Rattle.morris_index.specs.Moves.{unmove_sides}
+use Rattle.morris_index.specs.Unmoves.{gives_unmove}
 use Rattle.morris_index.proofs.IndexLaws.{placed}
 use Rattle.morris_index.proofs.ResultLaws.{is_of-quiet}
 use Rattle.morris_index.proofs.ClassLaws.{symmetry_within, symmetry_first, image_twice, representative_twice}
 use Rattle.morris_wave.specs.Nets.{times}
 use Rattle.morris_pairs.specs.Orders.{Order, count_in, index_in, own_in}
-use Rattle.morris_pairs.specs.EntryLaws.{IsLaid, IsLedBy, led_by as led_there, led_none, laid-led}
+use Rattle.morris_pairs.specs.EntryLaws.{IsLaid, IsCanonicalBy, canonical_by as canonical_there, canonical_none, laid-canonical_form}
 use Rattle.morris_pairs.specs.FilterLaws.{filter-contains, contained-filter, range_bounds, length-filter_le, flat_map-one, All-from_contained}
 use Rattle.morris_pairs.specs.NetLaws.{at_index-is, at_index-position}
 use Rattle.morris_pairs.specs.PairNets.{at_index, is_quiet, quiet_results, net_in}
-use Rattle.morris_pairs.proofs.BackLaws.{HasLed, all_before, led as led_by, led-listed, led-placed, led-of, led-moves, led-result, LeadsTo, leads-led, leads-before, leads-other, is_position, quiet_taken, taken_quiet, moves_differ, moves_before_differ, few_moves}
+use Rattle.morris_pairs.proofs.BackLaws.{HasLed, all_before, led as canonical_by, led-listed, led-placed, led-of, led-moves, led-result, LeadsTo, leads-led, leads-before, leads-other, is_position, quiet_taken, taken_quiet, moves_differ, moves_before_differ, few_moves}
 use Rattle.morris_pairs.proofs.BackLawsLists.{Contains-range, Ascends-range, Ascends-filter, Ascends-weaker, counted, found, at_most_one, count_by-map, one_each}
 use Rattle.morris_pairs.proofs.BackLawsMoves.{moved_same, before_mover, alike}
 use Rattle.morris_pairs.proofs.Doubles.{sum_same, count_sum, count_by-filter, count_by-flat_map, exchange}
@@ -46,18 +46,18 @@ all_symmetries b = range_with_len 0 b.symmetries
 
 module _ (b : Shape) (low : b.points ≤ 24) (y : HasSymmetries b) (s : ℕ) (in_range : s < b.symmetries) (set : ℕ) (small : set < 2 ^ b.points) where
   -- a symmetry that leads a set takes it to its representative
-  pub leads_there : is_leading b set s ≡ true → image_of (b.image s) set ≡ representative_of b set
-  unfolding is_leading representative_of
-  leads_there leading =
+  pub leads_there : is_canonicalizing b set s ≡ true → image_of (b.image s) set ≡ representative_of b set
+  unfolding is_canonicalizing representative_of
+  leads_there canonicalizing =
       let first = symmetry_first b set y.some in
       let above : leb (image_of (b.image s) set) (image_of (b.image (symmetry_of b set)) set) ≡ true =
-      below (λ t. leb (image_of (b.image s) set) (image_of (b.image t) set)) b.symmetries leading (symmetry_of b set) first.within in
+      below (λ t. leb (image_of (b.image s) set) (image_of (b.image t) set)) b.symmetries canonicalizing (symmetry_of b set) first.within in
       omega (arith, first.least s in_range, leb-true (image_of (b.image s) set) (image_of (b.image (symmetry_of b set)) set) above)
 
   -- a set that it takes to a representative is led by it
-  pub leading_from : representative_of b (image_of (b.image s) set) ≡ image_of (b.image s) set → image_of (b.image s) set < 2 ^ b.points → is_leading b set s ≡ true
-  unfolding is_leading representative_of
-  leading_from own within =
+  pub canonicalizing_from : representative_of b (image_of (b.image s) set) ≡ image_of (b.image s) set → image_of (b.image s) set < 2 ^ b.points → is_canonicalizing b set s ≡ true
+  unfolding is_canonicalizing representative_of
+  canonicalizing_from own within =
       all_below (λ t. leb (image_of (b.image s) set) (image_of (b.image t) set)) (λ t t_low.
       let u = image_twice b low y (image_of (b.image s) set) within t (inverse_of s) t_low (y.inverse_within s in_range) in
       let first = symmetry_first b (image_of (b.image s) set) y.some in
@@ -71,7 +71,7 @@ module _ (b : Shape) (low : b.points ≤ 24) (y : HasSymmetries b) (s : ℕ) (in
       all_below test each = contained_all test (range_with_len 0 b.symmetries) (λ t at. each t (omega (arith, (range_bounds 0 b.symmetries t at).1)))
 
 module _ (b : Shape) (low : b.points ≤ 24) (y : HasSymmetries b) (c : Counts) (pair : IsPair b.points c) (o : Order) (turn : Sides → Sides)
-    (laws : IsLedBy b o c turn) where
+    (laws : IsCanonicalBy b o c turn) where
   abbrev entry : Sides → ℕ
   entry s = index_in b b.points o c s
 
@@ -114,10 +114,10 @@ module _ (b : Shape) (low : b.points ≤ 24) (y : HasSymmetries b) (c : Counts) 
       count_of-image b.points low back f (back_one s in_range) q.other h.stones.other_within,
     ) of
 
-    carried_own : (q : Sides) → IsPosition b q → is_leading b (turn q).own s ≡ true → own_in b o (image_sides f q) ≡ true
-    carried_own q h leading =
+    carried_own : (q : Sides) → IsPosition b q → is_canonicalizing b (turn q).own s ≡ true → own_in b o (image_sides f q) ≡ true
+    carried_own q h canonicalizing =
         let is : (turn (image_sides f q)).own ≡ representative_of b (turn q).own =
-        laws.image s in_range q h ∙ leads_there b low y s in_range (turn q).own (laws.within q h) leading in
+        laws.image s in_range q h ∙ leads_there b low y s in_range (turn q).own (laws.within q h) canonicalizing in
         laws.own (image_sides f q)
         ∙ eq-eqb _ _ (ap (representative_of b) is ∙ representative_twice b low y (turn q).own (laws.within q h) ∙ sym is)
 
@@ -127,32 +127,32 @@ module _ (b : Shape) (low : b.points ≤ 24) (y : HasSymmetries b) (c : Counts) 
     -- the nodes to which symmetries carry the move from u to v
     abbrev carried_before : ℕ → ℕ → List ℕ
     carried_before u v =
-        map (λ s. entry (image_sides (b.image s) (taken_back p u v))) (filter (carries b (turn p) (turn (taken_back p u v)).own) (all_symmetries b))
+        map (λ s. entry (image_sides (b.image s) (unmove_sides p u v))) (filter (gives_unmove b (turn p) (turn (unmove_sides p u v)).own) (all_symmetries b))
 
     -- those to which they carry some moves
-    abbrev leading : List Move → List ℕ
-    leading moves = flat_map (λ m. carried_before m.from m.to) moves
+    abbrev canonicalizing : List Move → List ℕ
+    canonicalizing moves = flat_map (λ m. carried_before m.from m.to) moves
 
     -- whether symmetry s carries a move to p to one of the entry j
     abbrev from_entry : ℕ → Move → ℕ → Bool
-    from_entry j m s = carries b (turn p) (turn (before p m)).own s && eqb (entry (image_sides (b.image s) (before p m))) j
+    from_entry j m s = gives_unmove b (turn p) (turn (unmove p m)).own s && eqb (entry (image_sides (b.image s) (unmove p m))) j
 
     -- whether a move of x leads to the entry of p, by the way back of symmetry s
     abbrev to_entry : Sides → Move → ℕ → Bool
     to_entry x m s = eqb (entry (result_of x m)) (entry p) && eqb (symmetry_of b (turn (result_of x m)).own) (inverse_of s)
 
-    led_here : led_there b turn p ≡ p
-    led_here = led_none b low y o c turn laws p h own
+    led_here : canonical_there b turn p ≡ p
+    led_here = canonical_none b low y o c turn laws p h own
 
     module _ (m : Move) (k : Contains (all_before b p) m) where
       has_led : HasLed b p m
-      has_led = led_by b p m k
+      has_led = canonical_by b p m k
 
-      before_of : is_of c (before p m) ≡ true
+      before_of : is_of c (unmove p m) ≡ true
       before_of = led-of b low c pair p h of m has_led
 
-      before_position : IsPosition b (before p m)
-      before_position = is_position b low c pair (before p m) (led-placed b low c pair p h of m has_led) before_of
+      before_position : IsPosition b (unmove p m)
+      before_position = is_position b low c pair (unmove p m) (led-placed b low c pair p h of m has_led) before_of
 
     -- a position that falls on the entry of p, by the way back of s, is the image of p
     landed : (t : Sides) → IsPosition b t → is_of c t ≡ true → entry t ≡ entry p → (s : ℕ) → s < b.symmetries → symmetry_of b (turn t).own ≡ inverse_of s
@@ -175,7 +175,7 @@ module _ (b : Shape) (low : b.points ≤ 24) (y : HasSymmetries b) (c : Counts) 
       quiets = filter is_quiet (moves_of b x)
 
       laid_here : IsLaid b o c
-      laid_here = laid-led b low y o c turn laws pair
+      laid_here = laid-canonical_form b low y o c turn laws pair
 
       module _ (m : Move) (k : Contains quiets m) where
         k_moves : Contains (moves_of b x) m × (is_quiet m ≡ true)
@@ -195,11 +195,11 @@ module _ (b : Shape) (low : b.points ≤ 24) (y : HasSymmetries b) (c : Counts) 
 
       module _ (s : ℕ) (in_range : s < b.symmetries) where
         -- a move that is carried to one of x comes from the position that is carried to x
-        carried_is : (m : Move) → Contains (all_before b p) m → from_entry j m s ≡ true → image_sides (b.image s) (before p m) ≡ x
+        carried_is : (m : Move) → Contains (all_before b p) m → from_entry j m s ≡ true → image_sides (b.image s) (unmove p m) ≡ x
         carried_is m k e =
-            let parts = and_parts (carries b (turn p) (turn (before p m)).own s) _ e in
-            let leads = and_parts (is_leading b (turn (before p m)).own s) _ parts.0 in
-            let q = before p m in
+            let parts = and_parts (gives_unmove b (turn p) (turn (unmove p m)).own s) _ e in
+            let leads = and_parts (is_canonicalizing b (turn (unmove p m)).own s) _ parts.0 in
+            let q = unmove p m in
             let position = before_position m k in
             let there = carried_position s in_range q position in
             laid_here.alone (image_sides (b.image s) q) x (placed b b.points _ refl there) (placed b b.points x refl x_position)
@@ -218,10 +218,10 @@ module _ (b : Shape) (low : b.points ≤ 24) (y : HasSymmetries b) (c : Counts) 
             same m k at here e g =
                 let l = has_led m at in
                 let r = has_led k here in
-                let both : image_sides (b.image s) (before p m) ≡ image_sides (b.image s) (before p k) = carried_is m at e ∙ sym (carried_is k here g) in
-                let alone : before p m ≡ before p k =
-                sym (there_and_back s in_range (before p m) (before_position m at)) ∙ ap (image_sides (b.image (inverse_of s))) both
-                ∙ there_and_back s in_range (before p k) (before_position k here) in
+                let both : image_sides (b.image s) (unmove p m) ≡ image_sides (b.image s) (unmove p k) = carried_is m at e ∙ sym (carried_is k here g) in
+                let alone : unmove p m ≡ unmove p k =
+                sym (there_and_back s in_range (unmove p m) (before_position m at)) ∙ ap (image_sides (b.image (inverse_of s))) both
+                ∙ there_and_back s in_range (unmove p k) (before_position k here) in
                 let points = moved_same p.other m.to m.from l.end (vacant_parts p m.from l.vacant).1 k.to k.from r.end (vacant_parts p k.from r.vacant).1
                 (before_mover p m k alone) in
                 alike m k points.1 points.0 l.quiet r.quiet
@@ -256,13 +256,13 @@ module _ (b : Shape) (low : b.points ≤ 24) (y : HasSymmetries b) (c : Counts) 
             let r = found (λ m. from_entry j m s) (all_before b p) some in
             let m = r.0 in
             let l = has_led m r.1 in
-            let q = before p m in
+            let q = unmove p m in
             let position = before_position m r.1 in
             let moves = led-moves b low c pair p h of m l in
             let legal = listed_move b q low position.stones m moves in
             let there = carried_is m r.1 r.2 in
-            let parts = and_parts (carries b (turn p) (turn q).own s) _ r.2 in
-            let leads = and_parts (is_leading b (turn q).own s) _ parts.0 in
+            let parts = and_parts (gives_unmove b (turn p) (turn q).own s) _ r.2 in
+            let leads = and_parts (is_canonicalizing b (turn q).own s) _ parts.0 in
             let by : symmetry_of b (turn (image_sides (b.image s) p)).own ≡ inverse_of s =
             ap (symmetry_of b) (laws.image s in_range p h) ∙ eqb-true _ _ leads.1 in
             let sym_s = y.symmetry s in_range in
@@ -304,12 +304,12 @@ module _ (b : Shape) (low : b.points ≤ 24) (y : HasSymmetries b) (c : Counts) 
             let q_placed = placed b b.points q refl q_position in
             let has : HasLed b p m = leads-led b low c pair p h of q q_placed m listed leads in
             let to_low : m.to < b.points = leads.move.to_within in
-            let is : before p m ≡ q = leads-before b low c pair p h of q m leads in
+            let is : unmove p m ≡ q = leads-before b low c pair p h of q m leads in
             let x_rep : representative_of b (turn x).own ≡ (turn x).own = eqb-true _ _ (sym (laws.own x) ∙ x_own) in
             let own_there : image_of (b.image s) (turn q).own ≡ (turn x).own =
             sym (laws.image s in_range q q_position) ∙ ap (λ z. (turn z).own) there in
-            let leading : is_leading b (turn q).own s ≡ true =
-            leading_from b low y s in_range (turn q).own (laws.within q q_position) (ap (representative_of b) own_there ∙ x_rep ∙ sym own_there)
+            let canonicalizing : is_canonicalizing b (turn q).own s ≡ true =
+            canonicalizing_from b low y s in_range (turn q).own (laws.within q q_position) (ap (representative_of b) own_there ∙ x_rep ∙ sym own_there)
             (subst (λ z. z < 2 ^ b.points) (sym own_there) (laws.within x x_position)) in
             let parts = and_parts (eqb (entry (result_of x k)) (entry p)) _ r.2 in
             let by : symmetry_of b (image_of (b.image s) (turn p).own) ≡ inverse_of s =
@@ -317,7 +317,7 @@ module _ (b : Shape) (low : b.points ≤ 24) (y : HasSymmetries b) (c : Counts) 
             ∙ ap (λ z. symmetry_of b (turn z).own) (sym (landed_is k r.1 r.2)) ∙ eqb-true _ _ parts.1 in
             counted (λ z. from_entry j z s) (all_before b p) m (led-listed b p m (omega arith) has)
             (and_from _ _
-            (and_from _ _ (subst (λ z. is_leading b (turn z).own s ≡ true) (sym is) leading) (eq-eqb _ _ by))
+            (and_from _ _ (subst (λ z. is_canonicalizing b (turn z).own s ≡ true) (sym is) canonicalizing) (eq-eqb _ _ by))
             (eq-eqb _ _ (ap (λ z. entry (image_sides (b.image s) z)) is ∙ ap entry there ∙ x_at)))
 
         counts_same : count_by (λ m. from_entry j m s) (all_before b p) ≡ count_by (λ m. to_entry x m s) quiets
@@ -362,18 +362,18 @@ module _ (b : Shape) (low : b.points ≤ 24) (y : HasSymmetries b) (c : Counts) 
           count_by-map (λ z. eqb z (entry p)) (λ m. entry (result_of x m)) quiets
           ∙ count_sum (λ m. eqb (entry (result_of x m)) (entry p)) (λ m. count_by (to_entry x m) (all_symmetries b)) quiets by_one
 
-      count_before : times j (leading (all_before b p)) ≡ sum_by (λ m. count_by (from_entry j m) (all_symmetries b)) (all_before b p)
-      unfolding before moved
+      count_before : times j (canonicalizing (all_before b p)) ≡ sum_by (λ m. count_by (from_entry j m) (all_symmetries b)) (all_before b p)
+      unfolding unmove move_stone
       count_before =
           count_by-flat_map (λ z. eqb z j) (λ m. carried_before m.from m.to) (all_before b p)
           ∙ sum_same _ _ (all_before b p) (λ m at. each m)
         where
           each : (m : Move) → count_by (λ z. eqb z j) (carried_before m.from m.to) ≡ count_by (from_entry j m) (all_symmetries b)
           each m =
-              count_by-map (λ z. eqb z j) (λ s. entry (image_sides (b.image s) (before p m))) (filter (carries b (turn p) (turn (before p m)).own) (all_symmetries b))
-              ∙ count_by-filter (carries b (turn p) (turn (before p m)).own) (λ s. eqb (entry (image_sides (b.image s) (before p m))) j) (all_symmetries b)
+              count_by-map (λ z. eqb z j) (λ s. entry (image_sides (b.image s) (unmove p m))) (filter (gives_unmove b (turn p) (turn (unmove p m)).own) (all_symmetries b))
+              ∙ count_by-filter (gives_unmove b (turn p) (turn (unmove p m)).own) (λ s. eqb (entry (image_sides (b.image s) (unmove p m))) j) (all_symmetries b)
 
-      times_leading : times j (leading (all_before b p)) ≡ times (entry p) (quiet_results b o c x)
+      times_leading : times j (canonicalizing (all_before b p)) ≡ times (entry p) (quiet_results b o c x)
       times_leading =
           count_before
           ∙ exchange (from_entry j) (all_before b p) (all_symmetries b)
@@ -382,44 +382,44 @@ module _ (b : Shape) (low : b.points ≤ 24) (y : HasSymmetries b) (c : Counts) 
           ∙ sym count_after
 
     -- each that is listed is the entry of a position that has it for its own
-    listed_is : (z : ℕ) → Contains (leading (all_before b p)) z
+    listed_is : (z : ℕ) → Contains (canonicalizing (all_before b p)) z
         → (x : Sides) × IsPosition b x × (is_of c x ≡ true) × (own_in b o x ≡ true) × (entry x ≡ z)
-    unfolding before moved
+    unfolding unmove move_stone
     listed_is z at =
         let r = Contains-flat_map_cases (λ m. carried_before m.from m.to) (all_before b p) z at in
         let m = r.0 in
-        let t = Contains-map_cases (λ s. entry (image_sides (b.image s) (before p m))) (filter (carries b (turn p) (turn (before p m)).own) (all_symmetries b)) z r.2 in
-        let passed = filter-contains (carries b (turn p) (turn (before p m)).own) (all_symmetries b) t.0 t.1 in
+        let t = Contains-map_cases (λ s. entry (image_sides (b.image s) (unmove p m))) (filter (gives_unmove b (turn p) (turn (unmove p m)).own) (all_symmetries b)) z r.2 in
+        let passed = filter-contains (gives_unmove b (turn p) (turn (unmove p m)).own) (all_symmetries b) t.0 t.1 in
         let in_range : t.0 < b.symmetries = omega (arith, (range_bounds 0 b.symmetries t.0 passed.0).1) in
-        let leads = and_parts (is_leading b (turn (before p m)).own t.0) _ passed.1 in
+        let leads = and_parts (is_canonicalizing b (turn (unmove p m)).own t.0) _ passed.1 in
         let position = before_position m r.1 in (
-          image_sides (b.image t.0) (before p m),
-          carried_position t.0 in_range (before p m) position,
-          carried_of t.0 in_range (before p m) position (before_of m r.1),
-          carried_own t.0 in_range (before p m) position leads.0,
+          image_sides (b.image t.0) (unmove p m),
+          carried_position t.0 in_range (unmove p m) position,
+          carried_of t.0 in_range (unmove p m) position (before_of m r.1),
+          carried_own t.0 in_range (unmove p m) position leads.0,
           t.2,
         )
 
     -- each entry is listed as often as it leads to that of p
-    pub times_leads : (j : ℕ) → times j (leading (all_before b p)) ≡ times (entry p) ((net_in b o c).quiet j)
+    pub times_leads : (j : ℕ) → times j (canonicalizing (all_before b p)) ≡ times (entry p) ((net_in b o c).quiet j)
     unfolding net_in
     times_leads j = from (at_index b o c j) refl
       where
         laid_here : IsLaid b o c
-        laid_here = laid-led b low y o c turn laws pair
+        laid_here = laid-canonical_form b low y o c turn laws pair
 
         from : (xs : List Sides) → at_index b o c j ≡ xs
-            → times j (leading (all_before b p)) ≡ times (entry p) (flat_map (quiet_results b o c) (at_index b o c j))
-        from [] none = elim (cases_lt 0 (times j (leading (all_before b p)))) [
+            → times j (canonicalizing (all_before b p)) ≡ times (entry p) (flat_map (quiet_results b o c) (at_index b o c j))
+        from [] none = elim (cases_lt 0 (times j (canonicalizing (all_before b p)))) [
           | inl some ↦
-              let r = found (λ z. eqb z j) (leading (all_before b p)) some in
+              let r = found (λ z. eqb z j) (canonicalizing (all_before b p)) some in
               let w = listed_is r.0 r.1 in
               let there : at_index b o c j ≡ w.0 ∷ [] =
               ap (at_index b o c) (sym (w.4 ∙ eqb-true _ _ r.2)) ∙ at_index-is b low o c laid_here w.0 w.1 w.2 w.3 in
               let one : 0 ≡ 1 = ap length (sym none ∙ there) in
               absurd (omega (arith, one))
           | inr less ↦
-              let zero_here : times j (leading (all_before b p)) ≡ 0 = omega (arith, less) in
+              let zero_here : times j (canonicalizing (all_before b p)) ≡ 0 = omega (arith, less) in
               zero_here ∙ sym (ap (λ xs. times (entry p) (flat_map (quiet_results b o c) xs)) none)
         ]
         from (x ∷ xs) e =
@@ -429,12 +429,12 @@ module _ (b : Shape) (low : b.points ≤ 24) (y : HasSymmetries b) (c : Counts) 
             times_leading j x w.0 w.1 w.2 w.3
             ∙ ap (times (entry p)) (sym (flat_map-one (quiet_results b o c) x) ∙ ap (flat_map (quiet_results b o c)) (sym one))
 
-    pub nodes_leading : All (λ j. j < count_in b b.points o c) (leading (all_before b p))
+    pub nodes_leading : All (λ j. j < count_in b b.points o c) (canonicalizing (all_before b p))
     nodes_leading = All-from_contained (λ j. j < count_in b b.points o c) _ (λ z at.
         let w = listed_is z at in
         subst (λ k. k < count_in b b.points o c) w.4 (laws.below w.0 w.1 w.2))
 
-    pub few_leading : length (leading (all_before b p)) ≤ 9 * 24 * b.symmetries
+    pub few_leading : length (canonicalizing (all_before b p)) ≤ 9 * 24 * b.symmetries
     few_leading =
         let each : length (flat_map (λ m. carried_before m.from m.to) (all_before b p)) ≤ length (all_before b p) * b.symmetries =
         length-flat_map_le (λ m. carried_before m.from m.to) b.symmetries (all_before b p) few_each in
@@ -443,7 +443,7 @@ module _ (b : Shape) (low : b.points ≤ 24) (y : HasSymmetries b) (c : Counts) 
         few_each : (m : Move) → length (carried_before m.from m.to) ≤ b.symmetries
         few_each m = omega (
           arith,
-          length-map (filter (carries b (turn p) (turn (taken_back p m.from m.to)).own) (all_symmetries b)) (λ s. entry (image_sides (b.image s) (taken_back p m.from m.to))),
-          length-filter_le (carries b (turn p) (turn (taken_back p m.from m.to)).own) (all_symmetries b),
+          length-map (filter (gives_unmove b (turn p) (turn (unmove_sides p m.from m.to)).own) (all_symmetries b)) (λ s. entry (image_sides (b.image s) (unmove_sides p m.from m.to))),
+          length-filter_le (gives_unmove b (turn p) (turn (unmove_sides p m.from m.to)).own) (all_symmetries b),
           length-range_with_len 0 b.symmetries,
         )

@@ -6,7 +6,7 @@ use Rattle.std.specs.List.{Contains}
 use Rattle.morris_board.specs.Sets.{members, count_of}
 use Rattle.morris_board.specs.Boards.{Shape}
 use Rattle.morris_board.specs.Positions.{Sides}
-use Rattle.morris_moves.specs.declared.step.Move.{Move}
+use Rattle.morris_moves.specs.declared.game_move.Move.{Move}
 use Rattle.morris_moves.specs.Rules.{reach, moves_to, moves_from, moves_of}
 use Rattle.morris_moves.specs.Values.{is_lost, is_won, IsOpen, IsLostIn, IsWonIn, IsDraw}
 use Rattle.morris_moves.proofs.ListLaws.{Contains-flat_map_cases, contained_all}
@@ -91,9 +91,9 @@ module _ (board : Shape) (s : Sides) where
   pub decided_won : (depth n : ℕ) → depth ≤ n → IsWonIn board s depth → is_decided n board s ≡ true
   decided_won depth n low h = or_right (is_lost n board s) (is_won n board s) (won_longer board s depth n low h.won)
 
-  kept : (n : ℕ) → is_decided n board s ≡ true → code_to (suc n) board s ≡ code_to n board s
+  cache : (n : ℕ) → is_decided n board s ≡ true → code_to (suc n) board s ≡ code_to n board s
   unfolding code_to
-  kept n h = cond-true {A = ℕ} (is_decided n board s) (code_to n board s) (cond (is_decided (suc n) board s) (n + 2) 0) h
+  cache n h = cond-true {A = ℕ} (is_decided n board s) (code_to n board s) (cond (is_decided (suc n) board s) (n + 2) 0) h
 
   pub code_to-open : (n : ℕ) → ((k : ℕ) → k ≤ n → is_decided k board s ≡ false) → code_to n board s ≡ 0
   unfolding code_to
@@ -117,7 +117,7 @@ module _ (board : Shape) (s : Sides) where
       subst (λ k. code_to k board s ≡ suc depth) e (newly depth (from depth (omega arith)) before)
   code_to-at depth (suc n) low from before = elim (cases_eq depth (suc n)) [
     | inl e ↦ subst (λ k. code_to k board s ≡ suc depth) e (newly depth (from depth (omega arith)) before)
-    | inr differ ↦ kept n (from n (omega arith)) ∙ code_to-at depth n (omega arith) from before
+    | inr differ ↦ cache n (from n (omega arith)) ∙ code_to-at depth n (omega arith) from before
   ]
 
   -- a search far enough finds the code

@@ -6,11 +6,11 @@ use Rattle.std.proofs.lemmas.Grind.{get_or-set_at}
 use Rattle.std.proofs.lemmas.List.{get_or-set_other}
 use Rattle.std.proofs.lemmas.List.Folds.{list_any_more}
 use Rattle.std.specs.List.{range_with_len, list_any, list_all}
-use Rattle.morris_board.specs.Sets.{has, members, count_of, with_point, without_point, is_within}
+use Rattle.morris_board.specs.Sets.{has, members, count_of, with_point, without_point, is_subset}
 use Rattle.morris_board.specs.Boards.{Shape, is_adjacent, adjacent, mills_of, mills_through}
 use Rattle.morris_board.proofs.PointsLaws.{same_test, same_points, has-none, has-with, has-without, has-set_where, within_each, each_within, has-below, members-first, members-none, first_is}
 use Rattle.morris_board.proofs.SetLaws.{point_lt, is_adjacent-back}
-use Rattle.morris_moves.specs.Rules.{in_mill, moved, closes, goes}
+use Rattle.morris_moves.specs.Rules.{in_mill, move_stone, closes, goes}
 use Rattle.morris_moves.proofs.MaskLaws.{in_mill-lines}
 use Rattle.morris_moves.proofs.ListLaws.{any_contained, contained_any}
 use Rattle.morris_moves.proofs.SetLaws.{has-member, member-has}
@@ -35,18 +35,18 @@ unfolding members
 members_filter s r g same = filter_both (has r) g (has s) same (range_with_len 0 32)
 
 -- an array that holds what is to hold of each entry, one more at a time
-pub holds_more : (P : ℕ → ℕ → Type 0) (kept : List ℕ) (k x : ℕ) → k < length kept → P k x → ((v : ℕ) → v < k → P v (slice_index kept v))
-    → (v : ℕ) → v < k + 1 → P v (slice_index (slice_set kept k x) v)
-holds_more P kept k x inside is before v h = elim (cases_eq v k) [
-  | inl e ↦ subst (λ y. P v y) (sym (get_or-set_at kept k v x 0 e inside)) (subst (λ w. P w x) (sym e) is)
-  | inr d ↦ subst (λ y. P v y) (sym (get_or-set_other kept k v x 0 d)) (before v (omega arith))
+pub holds_more : (P : ℕ → ℕ → Type 0) (cache : List ℕ) (k x : ℕ) → k < length cache → P k x → ((v : ℕ) → v < k → P v (slice_index cache v))
+    → (v : ℕ) → v < k + 1 → P v (slice_index (slice_set cache k x) v)
+holds_more P cache k x inside is before v h = elim (cases_eq v k) [
+  | inl e ↦ subst (λ y. P v y) (sym (get_or-set_at cache k v x 0 e inside)) (subst (λ w. P w x) (sym e) is)
+  | inr d ↦ subst (λ y. P v y) (sym (get_or-set_other cache k v x 0 d)) (before v (omega arith))
 ]
 
 -- ---- the stones that fill a mill
 
 module _ (own v : ℕ) where
-  has-moved : (u p : ℕ) → has (moved own u v) p ≡ ((not (eqb p u) && has own p) || eqb p v)
-  unfolding moved
+  has-moved : (u p : ℕ) → has (move_stone own u v) p ≡ ((not (eqb p u) && has own p) || eqb p v)
+  unfolding move_stone
   has-moved u p = has-with (without_point own u) v p ∙ ap (λ x. x || eqb p v) (has-without own u p)
 
   module _ (free : has own v ≡ false) where
@@ -54,14 +54,14 @@ module _ (own v : ℕ) where
     not_there u y = false_from_ne_true (eqb u v) (λ e. both_ways (has own v) free (ap (has own) (sym (eqb-true u v e)) ∙ y))
 
     fill : (mill : ℕ) → mill < 2 ^ 32 → (u : ℕ) → has own u ≡ true
-        → is_within mill (moved own u v) ≡ (is_within mill (with_point own v) && not (has mill u))
+        → is_subset mill (move_stone own u v) ≡ (is_subset mill (with_point own v) && not (has mill u))
     fill mill small u y = same_test _ _
         (λ h. and_from _ _
-        (each_within mill (with_point own v) (λ p here. has-with own v p ∙ weaker (not (eqb p u)) (has own p) (eqb p v) (sym (has-moved u p) ∙ within_each mill (moved own u v) small h p here)))
+        (each_within mill (with_point own v) (λ p here. has-with own v p ∙ weaker (not (eqb p u)) (has own p) (eqb p v) (sym (has-moved u p) ∙ within_each mill (move_stone own u v) small h p here)))
         (ap not (false_from_ne_true (has mill u) (λ here.
-        both_ways (has (moved own u v) u) (has-moved u u ∙ rw (eq-same u, not_there u y) refl) (within_each mill (moved own u v) small h u here)))))
-        (λ h. let parts = and_parts (is_within mill (with_point own v)) (not (has mill u)) h in
-        each_within mill (moved own u v) (λ p here.
+        both_ways (has (move_stone own u v) u) (has-moved u u ∙ rw (eq-same u, not_there u y) refl) (within_each mill (move_stone own u v) small h u here)))))
+        (λ h. let parts = and_parts (is_subset mill (with_point own v)) (not (has mill u)) h in
+        each_within mill (move_stone own u v) (λ p here.
         has-moved u p ∙ rw (other mill u p (not-true (has mill u) parts.1) here) (sym (has-with own v p) ∙ within_each mill (with_point own v) small parts.0 p here)))
       where
         weaker : (x y z : Bool) → ((x && y) || z) ≡ true → (y || z) ≡ true
@@ -75,15 +75,15 @@ module _ (own v : ℕ) where
         other : (mill u p : ℕ) → has mill u ≡ false → has mill p ≡ true → eqb p u ≡ false
         other mill u p none here = false_from_ne_true (eqb p u) (λ e. both_ways (has mill u) none (ap (has mill) (sym (eqb-true p u e)) ∙ here))
 
-    pub fillers-some : (mill : ℕ) → mill < 2 ^ 32 → is_within mill (with_point own v) ≡ true → (u : ℕ)
-        → (has own u && not (has mill u)) ≡ (has own u && is_within mill (moved own u v))
+    pub fillers-some : (mill : ℕ) → mill < 2 ^ 32 → is_subset mill (with_point own v) ≡ true → (u : ℕ)
+        → (has own u && not (has mill u)) ≡ (has own u && is_subset mill (move_stone own u v))
     fillers-some mill small full u = elim (cases_Bool (has own u)) [
       | inl y ↦ rw (y, fill mill small u y, full) refl
       | inr z ↦ rw z refl
     ]
 
-    pub fillers-none : (mill : ℕ) → mill < 2 ^ 32 → is_within mill (with_point own v) ≡ false → (u : ℕ)
-        → has 0 u ≡ (has own u && is_within mill (moved own u v))
+    pub fillers-none : (mill : ℕ) → mill < 2 ^ 32 → is_subset mill (with_point own v) ≡ false → (u : ℕ)
+        → has 0 u ≡ (has own u && is_subset mill (move_stone own u v))
     fillers-none mill small full u = has-none u ∙ elim (cases_Bool (has own u)) [
       | inl y ↦ rw (y, fill mill small u y, full) refl
       | inr z ↦ rw z refl
@@ -119,11 +119,11 @@ module _ (b : Shape) (own v : ℕ) where
   -- ---- the stones that close a mill
 
   pub closers-both : (first second : ℕ) → mills_through b v ≡ first ∷ second ∷ [] → (u : ℕ)
-      → ((has own u && is_within first (moved own u v)) || (has own u && is_within second (moved own u v))) ≡ (has own u && closes b own u v)
+      → ((has own u && is_subset first (move_stone own u v)) || (has own u && is_subset second (move_stone own u v))) ≡ (has own u && closes b own u v)
   unfolding closes
   closers-both first second e u =
-      either (has own u) (is_within first (moved own u v)) (is_within second (moved own u v))
-      ∙ ap (λ x. has own u && x) (in_mill-lines b (moved own u v) v first second e)
+      either (has own u) (is_subset first (move_stone own u v)) (is_subset second (move_stone own u v))
+      ∙ ap (λ x. has own u && x) (in_mill-lines b (move_stone own u v) v first second e)
     where
       either : (x y z : Bool) → ((x && y) || (x && z)) ≡ (x && (y || z))
       either true y z = refl
@@ -189,18 +189,18 @@ module _ (b : Shape) (own v : ℕ) where
 
 -- those of these mills are among `last`
 abbrev pub AreLast : List ℕ → ℕ → ℕ → Type 0
-AreLast mills own last = (v : ℕ) → has own v ≡ false → list_any (λ m. has m v && is_within m (with_point own v)) mills ≡ true → has last v ≡ true
+AreLast mills own last = (v : ℕ) → has own v ≡ false → list_any (λ m. has m v && is_subset m (with_point own v)) mills ≡ true → has last v ≡ true
 
 module _ (own mill missing : ℕ) (small : mill < 2 ^ 32) (each : (p : ℕ) → has missing p ≡ (has mill p && not (has own p))) where
   -- where one stone more fills the mill, no other point of it is missing
   last_one : (rest v : ℕ) → rest < 2 ^ 32 → members rest ≡ drop 1 (members missing) → has own v ≡ false
-      → (has mill v && is_within mill (with_point own v)) ≡ true → rest ≡ 0
+      → (has mill v && is_subset mill (with_point own v)) ≡ true → rest ≡ 0
   last_one rest v low less free full = same_points rest 0 (λ p. false_from_ne_true (has rest p) (λ h.
       both_ways (list_any (λ k. true) (members rest)) (ap (list_any (λ k. true)) none)
       (contained_any (λ k. true) (members rest) p (member-has rest p (has-below rest p low h) h) refl)) ∙ sym (has-none p))
     where
-      parts : (has mill v ≡ true) × (is_within mill (with_point own v) ≡ true)
-      parts = and_parts (has mill v) (is_within mill (with_point own v)) full
+      parts : (has mill v ≡ true) × (is_subset mill (with_point own v) ≡ true)
+      parts = and_parts (has mill v) (is_subset mill (with_point own v)) full
 
       only : (p : ℕ) → has missing p ≡ eqb p v
       only p = same_test (has missing p) (eqb p v)
@@ -224,14 +224,14 @@ module _ (own mill missing : ℕ) (small : mill < 2 ^ 32) (each : (p : ℕ) → 
 
   module _ (mills : List ℕ) (k : ℕ) (inside : k < length mills) (is : slice_index mills k ≡ mill) (last : ℕ) (before : AreLast (take k mills) own last) where
     -- where it isn't among those before, this mill is the one
-    this_one : (v : ℕ) → list_any (λ m. has m v && is_within m (with_point own v)) (take (k + 1) mills) ≡ true
-        → list_any (λ m. has m v && is_within m (with_point own v)) (take k mills) ≡ false → (has mill v && is_within mill (with_point own v)) ≡ true
+    this_one : (v : ℕ) → list_any (λ m. has m v && is_subset m (with_point own v)) (take (k + 1) mills) ≡ true
+        → list_any (λ m. has m v && is_subset m (with_point own v)) (take k mills) ≡ false → (has mill v && is_subset mill (with_point own v)) ≡ true
     this_one v any not_before =
-        let f : ℕ → Bool = λ m. has m v && is_within m (with_point own v) in
+        let f : ℕ → Bool = λ m. has m v && is_subset m (with_point own v) in
         sym (list_any_more f mills k 0 inside ∙ ap₂ (λ x y. x || y) not_before (ap f is)) ∙ any
 
     pub last-more : (joined : ℕ) → ((p : ℕ) → has joined p ≡ (has last p || has missing p)) → AreLast (take (k + 1) mills) own joined
-    last-more joined both v free any = elim (cases_Bool (list_any (λ m. has m v && is_within m (with_point own v)) (take k mills))) [
+    last-more joined both v free any = elim (cases_Bool (list_any (λ m. has m v && is_subset m (with_point own v)) (take k mills))) [
       | inl y ↦ both v ∙ ap (λ x. x || has missing v) (before v free y)
       | inr z ↦
           both v ∙ ap (λ x. has last v || x) (each v ∙ and_from _ _ (and_parts (has mill v) _ (this_one v any z)).0 (ap not free))
@@ -239,7 +239,7 @@ module _ (own mill missing : ℕ) (small : mill < 2 ^ 32) (each : (p : ℕ) → 
     ]
 
     pub last-same : (rest : ℕ) → rest < 2 ^ 32 → members rest ≡ drop 1 (members missing) → eqb rest 0 ≡ false → AreLast (take (k + 1) mills) own last
-    last-same rest low less some v free any = elim (cases_Bool (list_any (λ m. has m v && is_within m (with_point own v)) (take k mills))) [
+    last-same rest low less some v free any = elim (cases_Bool (list_any (λ m. has m v && is_subset m (with_point own v)) (take k mills))) [
       | inl y ↦ before v free y
       | inr z ↦ absurd (eqb-false rest 0 some (last_one rest v low less free (this_one v any z)))
     ]
@@ -249,18 +249,18 @@ all_more f g more [] h = refl
 all_more f g more (x ∷ xs) h = let parts = and_parts (f x) (list_all f xs) h in and_from _ _ (more x parts.0) (all_more f g more xs parts.1)
 
 pub last-all : (b : Shape) (own last : ℕ) → AreLast (mills_of b) own last → (u v : ℕ) → has own v ≡ false → closes b own u v ≡ true → has last v ≡ true
-unfolding closes in_mill moved is_within
+unfolding closes in_mill move_stone is_subset
 last-all b own last each u v free shuts =
-    let one = any_contained (λ m. has m v && is_within m (moved own u v)) (mills_of b) shuts in
-    let parts = and_parts (has one.0 v) (is_within one.0 (moved own u v)) one.2 in
-    each v free (contained_any (λ m. has m v && is_within m (with_point own v)) (mills_of b) one.0 one.1
-    (and_from _ _ parts.0 (all_more (has (moved own u v)) (has (with_point own v)) still (members one.0) parts.1)))
+    let one = any_contained (λ m. has m v && is_subset m (move_stone own u v)) (mills_of b) shuts in
+    let parts = and_parts (has one.0 v) (is_subset one.0 (move_stone own u v)) one.2 in
+    each v free (contained_any (λ m. has m v && is_subset m (with_point own v)) (mills_of b) one.0 one.1
+    (and_from _ _ parts.0 (all_more (has (move_stone own u v)) (has (with_point own v)) still (members one.0) parts.1)))
   where
     stays : (x y z : Bool) → ((not x && y) || z) ≡ true → (y || z) ≡ true
     stays true y z h = rw h (or-true y)
     stays false y z h = h
 
-    still : (p : ℕ) → has (moved own u v) p ≡ true → has (with_point own v) p ≡ true
+    still : (p : ℕ) → has (move_stone own u v) p ≡ true → has (with_point own v) p ≡ true
     still p h =
         has-with own v p
         ∙ stays (eqb p u) (has own p) (eqb p v)

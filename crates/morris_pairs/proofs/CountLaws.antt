@@ -10,7 +10,7 @@ use Rattle.morris_board.specs.Sets.{count_of}
 use Rattle.morris_board.specs.Positions.{Sides, IsPosition}
 use Rattle.morris_board.specs.Symmetries.{HasSymmetries}
 use Rattle.morris_index.specs.ClassPairs.{class_half_index, class_half_size, class_index_of}
-use Rattle.morris_index.specs.Falls.{HasPositions}
+use Rattle.morris_index.specs.Orbits.{HasPositions}
 use Rattle.morris_index.specs.Numbering.{half_index, half_size}
 use Rattle.morris_index.specs.Pairs.{Counts, IsPair, index_of, is_of}
 use Rattle.morris_index.proofs.IndexLaws.{half_index-lt, halves_of, index-first, index-second, placed}
@@ -139,10 +139,10 @@ module _ (board : Shape) (t : Table) (all : Bool) (start : ℕ) where
       subst (AreSoMany (λ s. IsBetween board t all start start s code)) (sym (zeros code))
       (many_none (λ s. IsBetween board t all start start s code) (λ s h. omega (arith, h.from, h.below)))
 
-  module _ (entry code weight : ℕ) (tallies : List ℕ) (is : code ≡ get_or t.codes entry 0) (low : start ≤ entry) (fits : code < length tallies)
-      (here : AreSoMany (IsOfEntry board t.layout t.pair all entry) weight) (before : AreTalliesOf board t all start entry tallies) where
+  module _ (entry code orbit_size : ℕ) (tallies : List ℕ) (is : code ≡ get_or t.codes entry 0) (low : start ≤ entry) (fits : code < length tallies)
+      (here : AreSoMany (IsOfEntry board t.layout t.pair all entry) orbit_size) (before : AreTalliesOf board t all start entry tallies) where
     abbrev after : List ℕ
-    after = set tallies code (get_or tallies code 0 + weight)
+    after = set tallies code (get_or tallies code 0 + orbit_size)
 
     -- a position with an entry up to this one has an earlier one, or this one
     later : (k : ℕ) (s : Sides) → IsBetween board t all start entry s k → IsBetween board t all start (entry + 1) s k
@@ -165,32 +165,32 @@ module _ (board : Shape) (t : Table) (all : Bool) (start : ℕ) where
     pub tallied_more : AreTalliesOf board t all start (entry + 1) after
     tallied_more = λ k. elim (cases_eq code k) [
       | inl e ↦
-          let value : get_or after k 0 ≡ get_or tallies k 0 + weight =
-          ap (λ j. get_or after j 0) (sym e) ∙ (get_or-set_same tallies code (get_or tallies code 0 + weight) 0 fits ∙ ap (λ j. get_or tallies j 0 + weight) e) in
+          let value : get_or after k 0 ≡ get_or tallies k 0 + orbit_size =
+          ap (λ j. get_or after j 0) (sym e) ∙ (get_or-set_same tallies code (get_or tallies code 0 + orbit_size) 0 fits ∙ ap (λ j. get_or tallies j 0 + orbit_size) e) in
           subst (AreSoMany (λ s. IsBetween board t all start (entry + 1) s k)) (sym value)
           (many_join (λ s. IsBetween board t all start entry s k) (IsOfEntry board t.layout t.pair all entry) (λ s. IsBetween board t all start (entry + 1) s k)
-          (get_or tallies k 0) weight
+          (get_or tallies k 0) orbit_size
           (λ s h. elim (cases_eq (entry_of s) entry) [ inl at ↦ inr (of_entry k s h at) | inr other ↦ inl (earlier k s h other) ])
           (later k) (from_entry k e) (λ s f g. omega (arith, f.below, g.entry_is)) (before k) here)
       | inr d ↦
-          let value : get_or after k 0 ≡ get_or tallies k 0 = get_or-set_other tallies code k (get_or tallies code 0 + weight) 0 (λ e. d (sym e)) in
+          let value : get_or after k 0 ≡ get_or tallies k 0 = get_or-set_other tallies code k (get_or tallies code 0 + orbit_size) 0 (λ e. d (sym e)) in
           subst (AreSoMany (λ s. IsBetween board t all start (entry + 1) s k)) (sym value)
           (many_same (λ s. IsBetween board t all start entry s k) (λ s. IsBetween board t all start (entry + 1) s k) (get_or tallies k 0) (later k)
           (λ s h. earlier k s h (λ at. d (is ∙ (ap (λ i. get_or t.codes i 0) (sym at) ∙ h.stated.stated)))) (before k))
     ]
 
 -- a sum stays small
-pub tallied_small : (tallies : List ℕ) (code weight entry : ℕ) → code < length tallies → weight ≤ 16 → ((k : ℕ) → get_or tallies k 0 ≤ 16 * entry) → (k : ℕ)
-    → get_or (set tallies code (get_or tallies code 0 + weight)) k 0 ≤ 16 * (entry + 1)
-tallied_small tallies code weight entry fits most before k = elim (cases_eq code k) [
+pub tallied_small : (tallies : List ℕ) (code orbit_size entry : ℕ) → code < length tallies → orbit_size ≤ 16 → ((k : ℕ) → get_or tallies k 0 ≤ 16 * entry) → (k : ℕ)
+    → get_or (set tallies code (get_or tallies code 0 + orbit_size)) k 0 ≤ 16 * (entry + 1)
+tallied_small tallies code orbit_size entry fits most before k = elim (cases_eq code k) [
   | inl e ↦
-      let here : get_or (set tallies code (get_or tallies code 0 + weight)) k 0 ≡ get_or tallies code 0 + weight =
-      ap (λ j. get_or (set tallies code (get_or tallies code 0 + weight)) j 0) (sym e)
-      ∙ get_or-set_same tallies code (get_or tallies code 0 + weight) 0 fits in
+      let here : get_or (set tallies code (get_or tallies code 0 + orbit_size)) k 0 ≡ get_or tallies code 0 + orbit_size =
+      ap (λ j. get_or (set tallies code (get_or tallies code 0 + orbit_size)) j 0) (sym e)
+      ∙ get_or-set_same tallies code (get_or tallies code 0 + orbit_size) 0 fits in
       omega (arith, here, before code)
   | inr d ↦
-      let other : get_or (set tallies code (get_or tallies code 0 + weight)) k 0 ≡ get_or tallies k 0 =
-      get_or-set_other tallies code k (get_or tallies code 0 + weight) 0 (λ e. d (sym e)) in
+      let other : get_or (set tallies code (get_or tallies code 0 + orbit_size)) k 0 ≡ get_or tallies k 0 =
+      get_or-set_other tallies code k (get_or tallies code 0 + orbit_size) 0 (λ e. d (sym e)) in
       omega (arith, other, before k)
 ]
 

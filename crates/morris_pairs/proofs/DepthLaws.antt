@@ -6,14 +6,14 @@ use Rattle.std.specs.List.{Contains}
 use Rattle.morris_board.specs.Boards.{Shape}
 use Rattle.morris_board.specs.Positions.{Sides, IsPosition}
 use Rattle.morris_board.specs.Symmetries.{HasSymmetries}
-use Rattle.morris_moves.specs.declared.step.Move.{Move}
+use Rattle.morris_moves.specs.declared.game_move.Move.{Move}
 use Rattle.morris_moves.specs.Rules.{moves_of, result_of}
 use Rattle.morris_moves.specs.Values.{IsLostIn}
 use Rattle.morris_moves.proofs.ListLaws.{Contains-head, Contains-tail, Contains-map, Contains-map_cases, any_contained, contained_any}
 use Rattle.morris_moves.proofs.ValueLaws.{lost_is_even}
 use Rattle.morris_index.specs.Pairs.{Counts, IsPair, is_of}
 use Rattle.morris_wave.specs.Nets.{Net}
-use Rattle.morris_wave.specs.Exits.{is_odd, is_won_code, greatest, depths, exits_of, some_below}
+use Rattle.morris_wave.specs.Exits.{is_odd, is_won_code, maximum, depths, exits_of, some_below}
 use Rattle.morris_wave.specs.Values.{is_lost_exit, HasDepth, HasCode, IsTooDeep}
 use Rattle.morris_wave.proofs.ExitTests.{some_exit_lost}
 use Rattle.morris_pairs.specs.Orders.{Order, index_in, own_in}
@@ -72,9 +72,9 @@ greatest_of x n (Some y) e = elim (cases_lt y x) [
   | inr high ↦ let same : y ≡ n = omega arith in inr (ap Some same)
 ]
 
-greatest_in : (xs : List ℕ) (n : ℕ) → greatest xs ≡ Some n → Contains xs n
+greatest_in : (xs : List ℕ) (n : ℕ) → maximum xs ≡ Some n → Contains xs n
 greatest_in [] n e = absurd (both_ways true (ap is_none e) refl)
-greatest_in (x ∷ xs) n e = elim (greatest_of x n (greatest xs) (Some_same _ n e)) [
+greatest_in (x ∷ xs) n e = elim (greatest_of x n (maximum xs) (Some_same _ n e)) [
   | inl here ↦ subst (Contains (x ∷ xs)) here (Contains-head x xs)
   | inr later ↦ Contains-tail x xs n (greatest_in xs n later)
 ]

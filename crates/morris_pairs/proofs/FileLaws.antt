@@ -21,7 +21,7 @@ use Rattle.morris_pairs.specs.Entries.{entry_count}
 use Rattle.morris_pairs.specs.Tables.{Table, table, IsTable}
 use Rattle.morris_pairs.specs.Raws.{IsRaw}
 use Rattle.morris_pairs.specs.TableFiles.{magic, version_of, header_of, code_bytes, content_of, file_of}
-use Rattle.morris_pairs.specs.FileReading.{unless, and_then, header_at, is_version, layout_in, are_counts, kind_in, counted_in, heading_in, header_in, codes_in, body_in, file_in}
+use Rattle.morris_pairs.specs.FileReading.{unless, and_then, header_at, is_version, layout_in, are_counts, kind_in, check_count, check_header, header_in, codes_in, body_in, file_in}
 use Rattle.morris_pairs.specs.declared.file_faults.ReadFault.{ReadFault}
 use Rattle.morris_pairs.specs.declared.file_faults.ReadFault.TheVariants as fault
 
@@ -42,8 +42,8 @@ unfolding code_bytes
 code_bytes-more xs code = flat_map-append (to_be_bytes w16) xs (code ∷ [])
 
 -- the codes up to a place, and k more
-pub code_bytes-piece : (codes : List ℕ) (i k : ℕ) → code_bytes (take (i + k) codes) ≡ code_bytes (take i codes) ++ code_bytes (take k (drop i codes))
-code_bytes-piece codes i k = ap code_bytes (take-add i k codes) ∙ code_bytes-append (take i codes) (take k (drop i codes))
+pub code_bytes-chunk : (codes : List ℕ) (i k : ℕ) → code_bytes (take (i + k) codes) ≡ code_bytes (take i codes) ++ code_bytes (take k (drop i codes))
+code_bytes-chunk codes i k = ap code_bytes (take-add i k codes) ∙ code_bytes-append (take i codes) (take k (drop i codes))
 
 -- and those after them
 pub code_bytes-parts : (codes : List ℕ) (i k : ℕ)
@@ -51,7 +51,7 @@ pub code_bytes-parts : (codes : List ℕ) (i k : ℕ)
 code_bytes-parts codes i k =
     ap code_bytes (sym (take-append-drop (i + k) codes))
     ∙ code_bytes-append (take (i + k) codes) (drop (i + k) codes)
-    ∙ ap (λ front. front ++ code_bytes (drop (i + k) codes)) (code_bytes-piece codes i k)
+    ∙ ap (λ front. front ++ code_bytes (drop (i + k) codes)) (code_bytes-chunk codes i k)
 
 -- codes of 16 bits
 abbrev pub AreCodes : List ℕ → Type 0
@@ -111,8 +111,8 @@ version_layout Classes = refl
 
 -- the fields of a header of a table are the table's
 heading_fields : (board : Shape) (l : Layout) (c : Counts) (entries : ℕ) → IsPair board.points c → entries ≡ entry_count board board.points l c → entries < 2 ^ 64
-    → heading_in board (header_at (header_of board l c entries)) ≡ Ok (l, c)
-unfolding heading_in kind_in counted_in header_of
+    → check_header board (header_at (header_of board l c entries)) ≡ Ok (l, c)
+unfolding check_header kind_in check_count header_of
 heading_fields board l c entries lawful sized fits =
     let stated : from_be_bytes w64 (to_be_bytes w64 entries) ≡ entries = from_be_bytes-to_be_bytes_8 entries fits in
     let same : nat_eq (from_be_bytes w64 (to_be_bytes w64 entries)) (entry_count board board.points l c) ≡ true = eq-eqb _ _ (stated ∙ sized) in
@@ -126,18 +126,18 @@ heading_fields board l c entries lawful sized fits =
     rw (version_known l, version_layout l, of_board, greater_least, greater_most, lesser_least, lesser_most, ordered, enough, same) refl
 
 -- a header of 16 bytes stands before what follows it
-pub header_in-parts : (board : Shape) (header after : List ℕ) → length header ≡ 16 → header_in board (header ++ after) ≡ heading_in board (header_at header)
+pub header_in-parts : (board : Shape) (header after : List ℕ) → length header ≡ 16 → header_in board (header ++ after) ≡ check_header board (header_at header)
 unfolding header_in
 header_in-parts board header after long =
     let enough : nat_le 16 (length (header ++ after)) ≡ true = le-leb _ _ (omega (arith, length-append header after)) in
-    unless-true _ _ _ enough ∙ ap (λ bytes. heading_in board (header_at bytes)) (take_at header after 16 long)
+    unless-true _ _ _ enough ∙ ap (λ bytes. check_header board (header_at bytes)) (take_at header after 16 long)
 
 pub header_in-short : (board : Shape) (bytes : List ℕ) → length bytes < 16 → header_in board bytes ≡ Err fault.Short
 unfolding header_in
 header_in-short board bytes short = unless-false _ _ _ (lt-leb _ _ short)
 
 -- a file with a lawful header is read on after it
-pub file_in-parts : (board : Shape) (header after : List ℕ) (kind : Layout × Counts) → length header ≡ 16 → heading_in board (header_at header) ≡ Ok kind
+pub file_in-parts : (board : Shape) (header after : List ℕ) (kind : Layout × Counts) → length header ≡ 16 → check_header board (header_at header) ≡ Ok kind
     → file_in board (header ++ after) ≡ body_in kind (entry_count board board.points kind.0 kind.1) header after
 unfolding file_in
 file_in-parts board header after kind long found =
@@ -172,7 +172,7 @@ file_in-file_of board t after raw fits =
     let header = header_of board t.layout t.pair (length t.codes) in
     let digest = sha256 (content_of board t) in
     let kind : Layout × Counts = (t.layout, t.pair) in
-    let named : heading_in board (header_at header) ≡ Ok kind = heading_fields board t.layout t.pair (length t.codes) raw.lawful raw.counted fits in
+    let named : check_header board (header_at header) ≡ Ok kind = heading_fields board t.layout t.pair (length t.codes) raw.lawful raw.counted fits in
     ap (file_in board) (file_parts board t after)
     ∙ file_in-parts board header (code_bytes t.codes ++ (digest ++ after)) kind (length-header_of board t.layout t.pair (length t.codes)) named
     ∙ body_in-parts kind (entry_count board board.points t.layout t.pair) header t.codes digest after raw.counted raw.small (length-sha256 (content_of board t))
@@ -242,21 +242,21 @@ version_read v known = elim (or_cases (nat_eq v 1) (nat_eq v 2) known) [
 
 -- a header that names a table is the table's
 header_of-read : (board : Shape) (header : List ℕ) (kind : Layout × Counts) → ((i : ℕ) → get_or header i 0 < 256) → length header ≡ 16
-    → heading_in board (header_at header) ≡ Ok kind → header ≡ header_of board kind.0 kind.1 (entry_count board board.points kind.0 kind.1)
-unfolding heading_in kind_in counted_in header_of
+    → check_header board (header_at header) ≡ Ok kind → header ≡ header_of board kind.0 kind.1 (entry_count board board.points kind.0 kind.1)
+unfolding check_header kind_in check_count header_of
 header_of-read board header kind small long named =
     let greater = get_or header 6 0 in
     let lesser = get_or header 7 0 in
     let found : Layout × Counts = (layout_in (get_or header 4 0), counts greater lesser) in
-    let steps = passed_six (bytes_eq (take 4 header) magic) (is_version (get_or header 4 0)) (nat_eq (get_or header 5 0) board.id) (are_counts greater lesser)
+    let unmoves = passed_six (bytes_eq (take 4 header) magic) (is_version (get_or header 4 0)) (nat_eq (get_or header 5 0) board.id) (are_counts greater lesser)
     (nat_le (greater + lesser) board.points)
     fault.Magic fault.Version fault.BoardId fault.Counts fault.Crowded fault.Count found kind
     (λ (k : Layout × Counts). nat_eq (from_be_bytes w64 (drop 8 header)) (entry_count board board.points k.0 k.1)) named in
-    let kind_is : found ≡ kind = steps.4 in
-    let magic_is : take 4 header ≡ magic = (bytes_eq-Decides (take 4 header) magic).0 steps.0 in
-    let version_is : get_or header 4 0 ≡ version_of found.0 = version_read (get_or header 4 0) steps.1 in
-    let board_is : get_or header 5 0 ≡ board.id = eqb-true _ _ steps.2 in
-    let entries : from_be_bytes w64 (drop 8 header) ≡ entry_count board board.points found.0 found.1 = eqb-true _ _ steps.3 in
+    let kind_is : found ≡ kind = unmoves.4 in
+    let magic_is : take 4 header ≡ magic = (bytes_eq-Decides (take 4 header) magic).0 unmoves.0 in
+    let version_is : get_or header 4 0 ≡ version_of found.0 = version_read (get_or header 4 0) unmoves.1 in
+    let board_is : get_or header 5 0 ≡ board.id = eqb-true _ _ unmoves.2 in
+    let entries : from_be_bytes w64 (drop 8 header) ≡ entry_count board board.points found.0 found.1 = eqb-true _ _ unmoves.3 in
     let stated : drop 8 header ≡ to_be_bytes w64 (entry_count board board.points found.0 found.1) =
     sym (be_bytes_8 (drop 8 header) (entry_count board board.points found.0 found.1) (omega (arith, length-drop 8 header))
     (λ i. rw (get_or-drop 8 header i 0) (small (8 + i))) (sym entries)) in
@@ -275,7 +275,7 @@ header_of-read board header kind small long named =
 
 -- what was read is the file of the table: its header, its codes, and the digest of both
 pub file_of-read : (board : Shape) (header digest codes : List ℕ) (kind : Layout × Counts) → ((i : ℕ) → get_or header i 0 < 256) → length header ≡ 16
-    → heading_in board (header_at header) ≡ Ok kind → length codes ≡ entry_count board board.points kind.0 kind.1
+    → check_header board (header_at header) ≡ Ok kind → length codes ≡ entry_count board board.points kind.0 kind.1
     → digest ≡ sha256 (header ++ code_bytes codes) → file_of board (table kind.0 kind.1 codes) ≡ header ++ (code_bytes codes ++ digest)
 unfolding file_of content_of
 file_of-read board header digest codes kind small long named counted right =

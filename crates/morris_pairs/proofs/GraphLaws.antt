@@ -9,9 +9,9 @@ use Rattle.std.proofs.lemmas.List.Elements.{filter-append, Contains-append_cases
 use Rattle.morris_board.specs.Boards.{Shape, is_board}
 use Rattle.morris_board.specs.Positions.{Sides, IsPosition}
 use Rattle.morris_board.specs.Symmetries.{HasSymmetries}
-use Rattle.morris_moves.specs.declared.step.Move.{Move}
+use Rattle.morris_moves.specs.declared.game_move.Move.{Move}
 use Rattle.morris_moves.specs.Rules.{moves_of, result_of}
-use Rattle.morris_index.specs.Pairs.{Counts, counts, IsPair, is_of, needed, less_lesser, less_greater}
+use Rattle.morris_index.specs.Pairs.{Counts, counts, IsPair, is_of, all_needs, less_lesser, less_greater}
 use Rattle.morris_wave.specs.Nets.{Net, times}
 use Rattle.morris_wave.specs.Exits.{exits_of}
 use Rattle.morris_wave.specs.Values.{HasCode, IsTooDeep}
@@ -21,7 +21,7 @@ use Rattle.morris_pairs.specs.EntryLaws.{IsLaid, laid_in, laid}
 use Rattle.morris_pairs.specs.Codes.{IsCodeOf, code_to}
 use Rattle.morris_pairs.specs.PairNets.{is_capture, is_quiet, quiet_results, capture_codes, net_in, level_in, net_at}
 use Rattle.morris_pairs.specs.Tables.{Table}
-use Rattle.morris_wave.specs.Summaries.{added}
+use Rattle.morris_wave.specs.Summaries.{add_code}
 use Rattle.morris_pairs.specs.Graphs.{IsTableOf, IsNeeded, IsPairGraph, exits_by, HasValuesIn}
 use Rattle.morris_pairs.specs.Known.{IsTabled, IsKnown, IsBeyondCodes}
 use Rattle.morris_pairs.specs.FilterLaws.{filter-yes}
@@ -47,13 +47,13 @@ in_option : {X : Type 0} (o : Option X) (x : X) → Contains (option_to_list o) 
 in_option None x h = absurd (omega (arith, h.1))
 in_option (Some y) x h = let first : h.0 ≡ 0 = omega (arith, h.1) in ap (λ z. Some z) (sym (ap (λ i. get_or (y ∷ []) i x) first) ∙ h.2)
 
-pub needed_cases : (c d : Counts) → Contains (needed c) d → (less_lesser c ≡ Some d) ⊎ (less_greater c ≡ Some d)
+pub needed_cases : (c d : Counts) → Contains (all_needs c) d → (less_lesser c ≡ Some d) ⊎ (less_greater c ≡ Some d)
 needed_cases c d h = elim (Contains-append_cases (option_to_list (less_lesser c)) (option_to_list (less_greater c)) d h) [
   | inl l ↦ inl (in_option (less_lesser c) d l)
   | inr g ↦ inr (in_option (less_greater c) d g)
 ]
 
-pub IsPair-needed : (n : ℕ) (c d : Counts) → IsPair n c → Contains (needed c) d → IsPair n d
+pub IsPair-needed : (n : ℕ) (c d : Counts) → IsPair n c → Contains (all_needs c) d → IsPair n d
 IsPair-needed n c d h need = elim (needed_cases c d need) [
   | inl l ↦
       let w = cond_some (ltb 3 c.lesser) (counts c.greater (c.lesser - 1)) d l in
@@ -76,14 +76,14 @@ captures-capture ms m takes =
     filter-append is_capture ms (m ∷ []) ∙ ap (λ xs. filter is_capture ms ++ xs) (filter-yes is_capture m (ap (λ b. not (not b)) takes))
 
 pub exits_by-capture : (board : Shape) (s : Sides) (ms : List Move) (m : Move) → is_some m.taken ≡ true → (code : ℕ) → IsCodeOf board (result_of s m) code → code ≤ 65535
-    → exits_by board s (ms ++ m ∷ []) ≡ added (exits_by board s ms) code
+    → exits_by board s (ms ++ m ∷ []) ≡ add_code (exits_by board s ms) code
 unfolding exits_by
 exits_by-capture board s ms m takes code is few =
     let codes : List Move → List ℕ = map (λ x. code_to 65534 board (result_of s x)) in
     ap (λ xs. exits_of (codes xs)) (captures-capture ms m takes)
     ∙ ap exits_of (map-append (λ x. code_to 65534 board (result_of s x)) (filter is_capture ms) (m ∷ []))
     ∙ exits_of-more (codes (filter is_capture ms)) (code_to 65534 board (result_of s m))
-    ∙ ap (added (exits_of (codes (filter is_capture ms)))) (code_to-is board (result_of s m) code is few)
+    ∙ ap (add_code (exits_of (codes (filter is_capture ms)))) (code_to-is board (result_of s m) code is few)
 
 -- ---- the graph of a pair is the one of its level
 
@@ -101,15 +101,15 @@ module _ (board : Shape) (lawful : is_board board ≡ true) (y : HasSymmetries b
   pub quiet_count_at : (s : Sides) → IsPosition board s → is_of c s ≡ true → own_in board o s ≡ true → (i : ℕ) → index_in board n o c s ≡ i
       → length (filter is_quiet (moves_of board s)) ≡ length ((net_at board (level_in o c)).quiet i)
   unfolding quiet_results
-  quiet_count_at s h of kept i at =
+  quiet_count_at s h of cache i at =
       sym (length-map (filter is_quiet (moves_of board s)) (λ m. index_in board board.points o c (result_of s m)))
-      ∙ ap length (sym (quiet-at board (points_few board lawful) o c entries_here s h of kept) ∙ ap (net_in board o c).quiet (ap (λ k. index_in board k o c s) points ∙ at))
+      ∙ ap length (sym (quiet-at board (points_few board lawful) o c entries_here s h of cache) ∙ ap (net_in board o c).quiet (ap (λ k. index_in board k o c s) points ∙ at))
       ∙ ap (λ (g : Net). length (g.quiet i)) (sym (net_at-level_in board lawful y o c pair))
 
   pub exits_same : (s : Sides) → IsPosition board s → is_of c s ≡ true → own_in board o s ≡ true → (i : ℕ) → index_in board n o c s ≡ i
       → exits_of (capture_codes board s) ≡ exits_of ((net_at board (level_in o c)).exits i)
-  exits_same s h of kept i at =
-      ap exits_of (sym (exits-at board (points_few board lawful) o c entries_here s h of kept) ∙ ap (net_in board o c).exits (ap (λ k. index_in board k o c s) points ∙ at))
+  exits_same s h of cache i at =
+      ap exits_of (sym (exits-at board (points_few board lawful) o c entries_here s h of cache) ∙ ap (net_in board o c).exits (ap (λ k. index_in board k o c s) points ∙ at))
       ∙ ap (λ (g : Net). exits_of (g.exits i)) (sym (net_at-level_in board lawful y o c pair))
 
   -- what leads to a node, counted in the one and in the other

@@ -19,7 +19,7 @@ use Rattle.morris_pairs.specs.Orders.{Order, count_in, index_in}
 use Rattle.morris_pairs.specs.EntryLaws.{laid_in}
 use Rattle.morris_pairs.specs.Codes.{IsCodeOf}
 use Rattle.morris_pairs.specs.PairNets.{at_index, net_in, net_at}
-use Rattle.morris_pairs.specs.Headline.{IsBlockIn, positions_in, entry_of, TellsIn}
+use Rattle.morris_pairs.specs.Headline.{IsBlockIn, positions_in, entry_of, StatesIn}
 use Rattle.morris_pairs.specs.NetLaws.{points_few, size-net_in, net_at-level_in}
 use Rattle.morris_pairs.proofs.NodeLaws.{small_code}
 use Rattle.morris_pairs.proofs.PositionLaws.{at_index-some}
@@ -66,7 +66,7 @@ module _ (board : Shape) (lawful : is_board board ≡ true) (y : HasSymmetries b
   listed_here =
       listed_from board (points_few board lawful) y o c pair (entry_at (net_at board s.level) s.wave (in_applied s)) (first_node s) (count_of s) nodes_inside
 
-  tells : TellsIn board o c s
+  tells : StatesIn board o c s
   tells = record {
     exact = λ p position of inside decided. exact_at p position of decided;
     listed = listed_here;
@@ -75,5 +75,5 @@ module _ (board : Shape) (lawful : is_board board ≡ true) (y : HasSymmetries b
 
 -- the same, where the board's number of points is known by another name
 pub whenever : (board : Shape) → is_board board ≡ true → HasSymmetries board → (n : ℕ) → board.points ≡ n → (c : Counts) → IsPair n c
-    → (o : Order) (s : BlockState) → IsBlockIn board o c s → TellsIn board o c s
+    → (o : Order) (s : BlockState) → IsBlockIn board o c s → StatesIn board o c s
 whenever board lawful y n points c pair o s h = tells board lawful y o c (subst (λ m. IsPair m c) (sym points) pair) s h

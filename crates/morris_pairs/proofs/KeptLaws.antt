@@ -8,13 +8,13 @@ use Rattle.morris_board.specs.Sets.{has, members, without_point}
 use Rattle.morris_board.specs.Boards.{Shape}
 use Rattle.morris_board.specs.Positions.{Sides, sides, IsPosition}
 use Rattle.morris_board.proofs.PointsLaws.{has-without, has-set_where, same_points, count_of-without}
-use Rattle.morris_moves.specs.declared.step.Move.{Move}
-use Rattle.morris_moves.specs.Rules.{moved, move, takable, result_of}
+use Rattle.morris_moves.specs.declared.game_move.Move.{Move}
+use Rattle.morris_moves.specs.Rules.{move_stone, move, takable_stones, result_of}
 use Rattle.morris_moves.proofs.LegalLaws.{takable_is_other}
 use Rattle.morris_moves.proofs.ListLaws.{Contains-head, Contains-tail}
 use Rattle.morris_moves.proofs.SetLaws.{point_lt, has-member}
 use Rattle.morris_board.proofs.PositionLaws.{other_count}
-use Rattle.morris_wave.specs.declared.network.Exits.{Exits}
+use Rattle.morris_wave.specs.declared.graph.Exits.{Exits}
 use Rattle.morris_wave.specs.Exits.{exits_of}
 use Rattle.morris_pairs.specs.declared.rows.Row.{Row}
 use Rattle.morris_pairs.specs.Codes.{code_to}
@@ -22,14 +22,14 @@ use Rattle.morris_pairs.specs.PairNets.{is_capture}
 use Rattle.morris_pairs.specs.Graphs.{exits_by}
 use Rattle.morris_pairs.specs.Rows.{may_close, IsRow}
 use Rattle.morris_pairs.specs.Captured.{captures_at, captures_to}
-use Rattle.morris_pairs.specs.declared.kept_captures.Slot.{Slot}
-use Rattle.morris_pairs.specs.KeptCaptures.{open_ends, closers_at, codes_left, IsKept}
+use Rattle.morris_pairs.specs.declared.capture_cache.Slot.{Slot}
+use Rattle.morris_pairs.specs.CaptureCaches.{open_ends, closers_at, codes_left, IsCached}
 use Rattle.morris_pairs.proofs.CaptureLaws.{kept_captures, row_ends, closers_are, open_low, empty_count}
 
 -- ---- empty slots
 
-pub none_kept : (codes : ℕ → ℕ → List ℕ) (n : ℕ) (empty : Slot) → empty.after ≡ 0 → All (IsKept codes) (replicate n empty)
-none_kept codes n empty none = All-replicate (IsKept codes) n empty (λ some. absurd (omega (arith, some, none)))
+pub none_kept : (codes : ℕ → ℕ → List ℕ) (n : ℕ) (empty : Slot) → empty.after ≡ 0 → All (IsCached codes) (replicate n empty)
+none_kept codes n empty none = All-replicate (IsCached codes) n empty (λ some. absurd (omega (arith, some, none)))
 
 -- ---- summaries of two lists of moves
 
@@ -62,7 +62,7 @@ module _ (b : Shape) (s : Sides) (taken : ℕ) where
   code m = code_to 65534 b (result_of s m)
 
   abbrev code_by : ℕ → ℕ → ℕ
-  code_by v u = code_to 65534 b (sides (without_point s.other taken) (moved s.own u v))
+  code_by v u = code_to 65534 b (sides (without_point s.other taken) (move_stone s.own u v))
 
   coded_at : (v : ℕ) (us : List ℕ) → map code (filter is_capture (map (λ u. move u v (Some taken)) us)) ≡ map (code_by v) us
   unfolding result_of
@@ -80,7 +80,7 @@ module _ (b : Shape) (s : Sides) (taken : ℕ) where
       ∙ ap (λ xs. map (code_by v) (members (slice_index closers v)) ++ xs) (coded_to closers vs)))
 
 module _ (b : Shape) (n : ℕ) (points : b.points ≡ n) (low : n ≤ 24) (s : Sides) (lawful : IsPosition b s) (taken : ℕ) where
-  pub some_left : has (takable b s.other) taken ≡ true → 0 < without_point s.other taken
+  pub some_left : has (takable_stones b s.other) taken ≡ true → 0 < without_point s.other taken
   some_left here =
       let there : has s.other taken ≡ true = takable_is_other b s.other taken here in
       let few : taken < 32 = omega (arith, points, point_lt s.other b.points taken lawful.stones.other_within there) in

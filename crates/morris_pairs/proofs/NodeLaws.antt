@@ -5,14 +5,14 @@ use Rattle.std.proofs.lemmas.List.Folds.{list_all-map}
 use Rattle.std.specs.List.{Contains, list_all, list_any}
 use Rattle.morris_board.specs.Boards.{Shape}
 use Rattle.morris_board.specs.Positions.{Sides, IsPosition}
-use Rattle.morris_moves.specs.declared.step.Move.{Move}
+use Rattle.morris_moves.specs.declared.game_move.Move.{Move}
 use Rattle.morris_moves.specs.Rules.{moves_of, result_of}
 use Rattle.morris_moves.specs.Values.{IsOpen, IsLostIn, IsWonIn}
 use Rattle.morris_moves.specs.Values.{is_lost as is_lost_game, is_won as is_won_game}
 use Rattle.morris_moves.proofs.ValueLaws.{lost_longer, won_longer, never_both, searched}
-use Rattle.morris_index.specs.Pairs.{Counts, IsPair, is_of, needed}
+use Rattle.morris_index.specs.Pairs.{Counts, IsPair, is_of, all_needs}
 use Rattle.morris_wave.specs.Exits.{is_odd, is_won_code}
-use Rattle.morris_wave.specs.Values.{is_lost, is_won, is_decided, some_lost, all_won, is_lost_exit, is_won_exit, HasDepth, HasCode}
+use Rattle.morris_wave.specs.Values.{is_lost_before, is_won_before, is_decided, some_lost, all_won, is_lost_exit, is_won_exit, HasDepth, HasCode}
 use Rattle.morris_wave.proofs.Depths.{decided_by_then, none_decided}
 use Rattle.morris_pairs.specs.Codes.{IsCodeOf, code_to}
 use Rattle.morris_pairs.specs.Orders.{Order, index_in, own_in}
@@ -26,7 +26,7 @@ use Rattle.morris_pairs.specs.NetLaws.{quiet-at, exits-at, result-position, quie
 -- ---- a pair is known where the pairs that it needs are tabled
 
 pub known_by_tables : (board : Shape) (c : Counts) → board.points ≤ 24 → IsPair board.points c
-    → ((d : Counts) → Contains (needed c) d → IsTabled board d) → IsKnown board c
+    → ((d : Counts) → Contains (all_needs c) d → IsTabled board d) → IsKnown board c
 known_by_tables board c few pair tables s h of m listed takes =
     let there = result-position board few s h m listed in
     elim (capture-leads board few s h m listed c pair of (not-true (is_quiet m) takes)) [
@@ -172,8 +172,8 @@ module _ (board : Shape) (t : Sides) where
 module _ (board : Shape) (few : board.points ≤ 24) (o : Order) (c : Counts) (laid : IsLaid board o c) where
   abbrev Agrees : ℕ → Sides → Type 0
   Agrees n s =
-      (is_lost (net_in board o c) n (index_in board board.points o c s) ≡ lost_before n board s)
-      × (is_won (net_in board o c) n (index_in board board.points o c s) ≡ won_before n board s)
+      (is_lost_before (net_in board o c) n (index_in board board.points o c s) ≡ lost_before n board s)
+      × (is_won_before (net_in board o c) n (index_in board board.points o c s) ≡ won_before n board s)
 
   -- the exits of the pair's nodes are lost, and won, where the positions are that the captures lead
   -- to
@@ -188,34 +188,34 @@ module _ (board : Shape) (few : board.points ≤ 24) (o : Order) (c : Counts) (l
       searched_small board (result_of s m) n k.0 k.2 k.1
 
   -- one ply more, where each quiet result agrees
-  module _ (n : ℕ) (exits : ExitsAgree n) (s : Sides) (h : IsPosition board s) (of : is_of c s ≡ true) (kept : own_in board o s ≡ true)
+  module _ (n : ℕ) (exits : ExitsAgree n) (s : Sides) (h : IsPosition board s) (of : is_of c s ≡ true) (cache : own_in board o s ≡ true)
       (each : (t : Sides) → IsPosition board t → is_of c t ≡ true → Agrees n t) where
     there : (m : Move) → Contains (moves_of board s) m → is_quiet m ≡ true → Agrees n (result_of s m)
     there m listed quiet = each (result_of s m) (result-position board few s h m listed) (quiet-stays board few s h m listed c of quiet)
 
-    all_agree : all_won (net_in board o c) (is_won (net_in board o c) n) n (index_in board board.points o c s) ≡ lost_before (suc n) board s
+    all_agree : all_won (net_in board o c) (is_won_before (net_in board o c) n) n (index_in board board.points o c s) ≡ lost_before (suc n) board s
     unfolding quiet_results capture_codes
     all_agree =
-        ap₂ (λ quiet codes. list_all (is_won (net_in board o c) n) quiet && list_all (is_won_exit n) codes)
-        (quiet-at board few o c laid s h of kept) (exits-at board few o c laid s h of kept)
+        ap₂ (λ quiet codes. list_all (is_won_before (net_in board o c) n) quiet && list_all (is_won_exit n) codes)
+        (quiet-at board few o c laid s h of cache) (exits-at board few o c laid s h of cache)
         ∙ ap₂ (λ a b. a && b)
-        (list_all-map (is_won (net_in board o c) n) (λ m. index_in board board.points o c (result_of s m)) (filter is_quiet (moves_of board s)))
+        (list_all-map (is_won_before (net_in board o c) n) (λ m. index_in board board.points o c (result_of s m)) (filter is_quiet (moves_of board s)))
         (list_all-map (is_won_exit n) (λ m. code_to 65534 board (result_of s m)) (filter is_capture (moves_of board s)))
         ∙ all_parts is_quiet (λ m. won_before n board (result_of s m))
-        (λ m. is_won (net_in board o c) n (index_in board board.points o c (result_of s m))) (λ m. is_won_exit n (code_to 65534 board (result_of s m)))
+        (λ m. is_won_before (net_in board o c) n (index_in board board.points o c (result_of s m))) (λ m. is_won_exit n (code_to 65534 board (result_of s m)))
         (moves_of board s) (λ m listed quiet. (there m listed quiet).1) (λ m listed takes. (exits s h of m listed takes).1)
         ∙ sym (lost_before-suc n board s)
 
-    some_agree : some_lost (net_in board o c) (is_lost (net_in board o c) n) n (index_in board board.points o c s) ≡ won_before (suc n) board s
+    some_agree : some_lost (net_in board o c) (is_lost_before (net_in board o c) n) n (index_in board board.points o c s) ≡ won_before (suc n) board s
     unfolding quiet_results capture_codes
     some_agree =
-        ap₂ (λ quiet codes. list_any (is_lost (net_in board o c) n) quiet || list_any (is_lost_exit n) codes)
-        (quiet-at board few o c laid s h of kept) (exits-at board few o c laid s h of kept)
+        ap₂ (λ quiet codes. list_any (is_lost_before (net_in board o c) n) quiet || list_any (is_lost_exit n) codes)
+        (quiet-at board few o c laid s h of cache) (exits-at board few o c laid s h of cache)
         ∙ ap₂ (λ a b. a || b)
-        (list_any-map (is_lost (net_in board o c) n) (λ m. index_in board board.points o c (result_of s m)) (filter is_quiet (moves_of board s)))
+        (list_any-map (is_lost_before (net_in board o c) n) (λ m. index_in board board.points o c (result_of s m)) (filter is_quiet (moves_of board s)))
         (list_any-map (is_lost_exit n) (λ m. code_to 65534 board (result_of s m)) (filter is_capture (moves_of board s)))
         ∙ any_parts is_quiet (λ m. lost_before n board (result_of s m))
-        (λ m. is_lost (net_in board o c) n (index_in board board.points o c (result_of s m))) (λ m. is_lost_exit n (code_to 65534 board (result_of s m)))
+        (λ m. is_lost_before (net_in board o c) n (index_in board board.points o c (result_of s m))) (λ m. is_lost_exit n (code_to 65534 board (result_of s m)))
         (moves_of board s) (λ m listed quiet. (there m listed quiet).0) (λ m listed takes. (exits s h of m listed takes).0)
         ∙ sym (won_before-suc n board s)
 
@@ -229,12 +229,12 @@ module _ (board : Shape) (few : board.points ≤ 24) (o : Order) (c : Counts) (l
 
     agrees_stands : Agrees n t → Agrees n s
     agrees_stands there = (
-      ap (is_lost (net_in board o c) n) (sym h.entry) ∙ there.0 ∙ lost_stands,
-      ap (is_won (net_in board o c) n) (sym h.entry) ∙ there.1 ∙ won_stands,
+      ap (is_lost_before (net_in board o c) n) (sym h.entry) ∙ there.0 ∙ lost_stands,
+      ap (is_won_before (net_in board o c) n) (sym h.entry) ∙ there.1 ∙ won_stands,
     )
 
   agrees : (n : ℕ) → ((k : ℕ) → k < n → ExitsAgree k) → (s : Sides) → IsPosition board s → is_of c s ≡ true → Agrees n s
-  unfolding is_lost is_won lost_before won_before
+  unfolding is_lost_before is_won_before lost_before won_before
   agrees zero exits s h of = (refl, refl)
   agrees (suc n) exits s h of =
       let here = exits n (omega arith) in
@@ -247,11 +247,11 @@ module _ (board : Shape) (few : board.points ≤ 24) (o : Order) (c : Counts) (l
   -- where the exits agree in fewer plies than some number
   module _ (top : ℕ) (exits : (k : ℕ) → k < top → ExitsAgree k) (s : Sides) (h : IsPosition board s) (of : is_of c s ≡ true) where
     -- in fewer than n + 1 plies in the graph is within n plies in the game
-    lost_same : (n : ℕ) → n < top → is_lost (net_in board o c) (suc n) (index_in board board.points o c s) ≡ is_lost_game n board s
+    lost_same : (n : ℕ) → n < top → is_lost_before (net_in board o c) (suc n) (index_in board board.points o c s) ≡ is_lost_game n board s
     unfolding lost_before
     lost_same n low = (agrees (suc n) (λ k l. exits k (omega arith)) s h of).0
 
-    won_same : (n : ℕ) → n < top → is_won (net_in board o c) (suc n) (index_in board board.points o c s) ≡ is_won_game n board s
+    won_same : (n : ℕ) → n < top → is_won_before (net_in board o c) (suc n) (index_in board board.points o c s) ≡ is_won_game n board s
     unfolding won_before
     won_same n low = (agrees (suc n) (λ k l. exits k (omega arith)) s h of).1
 
@@ -259,12 +259,12 @@ module _ (board : Shape) (few : board.points ≤ 24) (o : Order) (c : Counts) (l
 
     open_game : (n : ℕ) → n < top → is_decided (net_in board o c) (suc n) (index_in board board.points o c s) ≡ false → IsOpen board s n
     open_game n low e =
-        let w = or_parts (is_lost (net_in board o c) (suc n) (index_in board board.points o c s)) (is_won (net_in board o c) (suc n) (index_in board board.points o c s)) e in
+        let w = or_parts (is_lost_before (net_in board o c) (suc n) (index_in board board.points o c s)) (is_won_before (net_in board o c) (suc n) (index_in board board.points o c s)) e in
         record { not_lost = sym (lost_same n low) ∙ w.0; not_won = sym (won_same n low) ∙ w.1 }
 
     open_node : (n : ℕ) → n < top → IsOpen board s n → is_decided (net_in board o c) (suc n) (index_in board board.points o c s) ≡ false
     open_node n low still =
-        or_from (is_lost (net_in board o c) (suc n) (index_in board board.points o c s)) (is_won (net_in board o c) (suc n) (index_in board board.points o c s))
+        or_from (is_lost_before (net_in board o c) (suc n) (index_in board board.points o c s)) (is_won_before (net_in board o c) (suc n) (index_in board board.points o c s))
         (lost_same n low ∙ still.not_lost) (won_same n low ∙ still.not_won)
 
     -- not before a depth in the graph is open below it in the game
@@ -279,7 +279,7 @@ module _ (board : Shape) (few : board.points ≤ 24) (o : Order) (c : Counts) (l
     -- the depth of the node is that of the position
     depth_code : (depth : ℕ) → depth < top → HasDepth (net_in board o c) (index_in board board.points o c s) depth → IsCodeOf board s (suc depth)
     depth_code depth low d =
-        elim (or_cases (is_lost (net_in board o c) (suc depth) (index_in board board.points o c s)) (is_won (net_in board o c) (suc depth) (index_in board board.points o c s)) d.reached) [
+        elim (or_cases (is_lost_before (net_in board o c) (suc depth) (index_in board board.points o c s)) (is_won_before (net_in board o c) (suc depth) (index_in board board.points o c s)) d.reached) [
           | inl lost ↦
               code_of_lost board s depth (record { lost = sym (lost_same depth low) ∙ lost; least = open_below depth (omega arith) d.not_before })
           | inr won ↦ code_of_won board s depth (record { won = sym (won_same depth low) ∙ won; least = open_below depth (omega arith) d.not_before })
@@ -287,13 +287,13 @@ module _ (board : Shape) (few : board.points ≤ 24) (o : Order) (c : Counts) (l
 
     depth_lost : (depth : ℕ) → depth < top → IsLostIn board s depth → HasDepth (net_in board o c) (index_in board board.points o c s) depth
     depth_lost depth low h = record {
-      reached = or_left _ (is_won (net_in board o c) (suc depth) (index_in board board.points o c s)) (lost_same depth low ∙ h.lost);
+      reached = or_left _ (is_won_before (net_in board o c) (suc depth) (index_in board board.points o c s)) (lost_same depth low ∙ h.lost);
       not_before = open_before depth (omega arith) h.least;
     }
 
     depth_won : (depth : ℕ) → depth < top → IsWonIn board s depth → HasDepth (net_in board o c) (index_in board board.points o c s) depth
     depth_won depth low h = record {
-      reached = or_right (is_lost (net_in board o c) (suc depth) (index_in board board.points o c s)) _ (won_same depth low ∙ h.won);
+      reached = or_right (is_lost_before (net_in board o c) (suc depth) (index_in board board.points o c s)) _ (won_same depth low ∙ h.won);
       not_before = open_before depth (omega arith) h.least;
     }
 

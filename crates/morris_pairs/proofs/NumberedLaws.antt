@@ -14,7 +14,7 @@ use Rattle.morris_moves.proofs.ListLaws.{Contains-head, Contains-tail}
 use Rattle.morris_moves.proofs.SetLaws.{point_lt, has-member}
 use Rattle.morris_index.specs.EntryRows.{InRow, IsInRow}
 use Rattle.morris_index.specs.Numbering.{number_outside}
-use Rattle.morris_index.specs.Parts.{squeezed_below}
+use Rattle.morris_index.specs.Parts.{squeeze_below}
 use Rattle.morris_index.specs.Sums.{total}
 use Rattle.morris_index.proofs.RankLaws.{number-outside, number-inside, number-count}
 use Rattle.morris_index.proofs.NumberLaws.{number_has, numbers_members}
@@ -45,21 +45,21 @@ module _ (own : ℕ) where
     ]
   ]
 
-  module _ (f kept : ℕ → ℕ) (n : ℕ) (before : (v : ℕ) → v < n → has own v ≡ false → kept (number v) ≡ f v) where
-    pub each-free : (m x : ℕ) (next : ℕ → ℕ) → m ≡ number n → kept m ≡ 0 → ((k : ℕ) → next k ≡ kept k + cond (eqb k m) x 0) → x ≡ f n
+  module _ (f cache : ℕ → ℕ) (n : ℕ) (before : (v : ℕ) → v < n → has own v ≡ false → cache (number v) ≡ f v) where
+    pub each-free : (m x : ℕ) (next : ℕ → ℕ) → m ≡ number n → cache m ≡ 0 → ((k : ℕ) → next k ≡ cache k + cond (eqb k m) x 0) → x ≡ f n
         → (v : ℕ) → v < n + 1 → has own v ≡ false → next (number v) ≡ f v
     each-free m x next at none each is v h free = elim (cases_eq v n) [
       | inl e ↦
           let here : number v ≡ m = ap number e ∙ sym at in
           let more : cond (eqb (number v) m) x 0 ≡ x = ap (λ t. cond t x 0) (eq-eqb (number v) m here) in
-          omega (arith, each (number v), more, ap kept here, none, is, ap f e)
+          omega (arith, each (number v), more, ap cache here, none, is, ap f e)
       | inr d ↦
           let same : cond (eqb (number v) m) x 0 ≡ 0 =
           ap (λ t. cond t x 0) (ne_eqb (number v) m (λ e. omega (arith, e, at, number_lt v n (omega arith) free))) in
           omega (arith, each (number v), same, before v (omega arith) free)
     ]
 
-    pub each-own : has own n ≡ true → (v : ℕ) → v < n + 1 → has own v ≡ false → kept (number v) ≡ f v
+    pub each-own : has own n ≡ true → (v : ℕ) → v < n + 1 → has own v ≡ false → cache (number v) ≡ f v
     each-own y v h free = elim (cases_eq v n) [
       | inl e ↦ absurd (both_ways (has own v) free (ap (has own) e ∙ y))
       | inr d ↦ before v (omega arith) free
@@ -90,9 +90,9 @@ module _ (own : ℕ) where
         → (k : ℕ) → m + 1 ≤ k → has next k ≡ false
     above-free m next x at each k h = each k ∙ rw (above k (omega arith), ne_eqb k m (λ e. omega arith)) refl
 
-pub none-above : (kept next : ℕ → ℕ) (m x : ℕ) → ((k : ℕ) → m ≤ k → kept k ≡ 0) → ((k : ℕ) → next k ≡ kept k + cond (eqb k m) x 0)
+pub none-above : (cache next : ℕ → ℕ) (m x : ℕ) → ((k : ℕ) → m ≤ k → cache k ≡ 0) → ((k : ℕ) → next k ≡ cache k + cond (eqb k m) x 0)
     → (k : ℕ) → m + 1 ≤ k → next k ≡ 0
-none-above kept next m x none each k h =
+none-above cache next m x none each k h =
     let same : cond (eqb k m) x 0 ≡ 0 = ap (λ t. cond t x 0) (ne_eqb k m (λ e. omega arith)) in
     omega (arith, each k, same, none k (omega arith))
 
@@ -110,40 +110,40 @@ digit_there true new y is = rw is refl
 digit_there false new y is = rw is refl
 
 -- the last four digits of a number are those of the sets that have it
-pub counts_more : (kept next : SmallCounts) (m x : ℕ) → count_at kept m ≡ 0
-    → ((v : ℕ) → has next.ones v ≡ (has kept.ones v || (eqb v m && eqb (x % 2) 1)))
-    → ((v : ℕ) → has next.twos v ≡ (has kept.twos v || (eqb v m && eqb (x / 2 % 2) 1)))
-    → ((v : ℕ) → has next.fours v ≡ (has kept.fours v || (eqb v m && eqb (x / 4 % 2) 1)))
-    → ((v : ℕ) → has next.eights v ≡ (has kept.eights v || (eqb v m && eqb (x / 8 % 2) 1)))
-    → (v : ℕ) → count_at next v ≡ count_at kept v + cond (eqb v m) (x % 16) 0
+pub counts_more : (cache next : SmallCounts) (m x : ℕ) → count_at cache m ≡ 0
+    → ((v : ℕ) → has next.ones v ≡ (has cache.ones v || (eqb v m && eqb (x % 2) 1)))
+    → ((v : ℕ) → has next.twos v ≡ (has cache.twos v || (eqb v m && eqb (x / 2 % 2) 1)))
+    → ((v : ℕ) → has next.fours v ≡ (has cache.fours v || (eqb v m && eqb (x / 4 % 2) 1)))
+    → ((v : ℕ) → has next.eights v ≡ (has cache.eights v || (eqb v m && eqb (x / 8 % 2) 1)))
+    → (v : ℕ) → count_at next v ≡ count_at cache v + cond (eqb v m) (x % 16) 0
 unfolding count_at
-counts_more kept next m x none one two four eight v = elim (cases_eq v m) [
+counts_more cache next m x none one two four eight v = elim (cases_eq v m) [
   | inl e ↦
       let same : eqb v m ≡ true = eq-eqb v m e in
-      let first : digit (has kept.ones v) ≡ 0 = rw e (omega arith) in
-      let second : digit (has kept.twos v) ≡ 0 = rw e (omega arith) in
-      let third : digit (has kept.fours v) ≡ 0 = rw e (omega arith) in
-      let fourth : digit (has kept.eights v) ≡ 0 = rw e (omega arith) in
+      let first : digit (has cache.ones v) ≡ 0 = rw e (omega arith) in
+      let second : digit (has cache.twos v) ≡ 0 = rw e (omega arith) in
+      let third : digit (has cache.fours v) ≡ 0 = rw e (omega arith) in
+      let fourth : digit (has cache.eights v) ≡ 0 = rw e (omega arith) in
       omega (
         arith,
         first,
         second,
         third,
         fourth,
-        digit_here (has kept.ones v) (has next.ones v) (x % 2) (one v ∙ rw same refl) first (omega arith),
-        digit_here (has kept.twos v) (has next.twos v) (x / 2 % 2) (two v ∙ rw same refl) second (omega arith),
-        digit_here (has kept.fours v) (has next.fours v) (x / 4 % 2) (four v ∙ rw same refl) third (omega arith),
-        digit_here (has kept.eights v) (has next.eights v) (x / 8 % 2) (eight v ∙ rw same refl) fourth (omega arith),
+        digit_here (has cache.ones v) (has next.ones v) (x % 2) (one v ∙ rw same refl) first (omega arith),
+        digit_here (has cache.twos v) (has next.twos v) (x / 2 % 2) (two v ∙ rw same refl) second (omega arith),
+        digit_here (has cache.fours v) (has next.fours v) (x / 4 % 2) (four v ∙ rw same refl) third (omega arith),
+        digit_here (has cache.eights v) (has next.eights v) (x / 8 % 2) (eight v ∙ rw same refl) fourth (omega arith),
         ap (λ t. cond t (x % 16) 0) same,
       )
   | inr d ↦
       let other : eqb v m ≡ false = ne_eqb v m d in
       omega (
         arith,
-        digit_there (has kept.ones v) (has next.ones v) (eqb (x % 2) 1) (one v ∙ rw other refl),
-        digit_there (has kept.twos v) (has next.twos v) (eqb (x / 2 % 2) 1) (two v ∙ rw other refl),
-        digit_there (has kept.fours v) (has next.fours v) (eqb (x / 4 % 2) 1) (four v ∙ rw other refl),
-        digit_there (has kept.eights v) (has next.eights v) (eqb (x / 8 % 2) 1) (eight v ∙ rw other refl),
+        digit_there (has cache.ones v) (has next.ones v) (eqb (x % 2) 1) (one v ∙ rw other refl),
+        digit_there (has cache.twos v) (has next.twos v) (eqb (x / 2 % 2) 1) (two v ∙ rw other refl),
+        digit_there (has cache.fours v) (has next.fours v) (eqb (x / 4 % 2) 1) (four v ∙ rw other refl),
+        digit_there (has cache.eights v) (has next.eights v) (eqb (x / 8 % 2) 1) (eight v ∙ rw other refl),
         ap (λ t. cond t (x % 16) 0) other,
       )
 ]
@@ -194,11 +194,11 @@ sum_digits counts (k ∷ ks) =
 
 -- the numbers of a place in a row of entries are those of its position
 pub are_numbers : (b : Shape) (n : ℕ) (row : InRow) (place own list : ℕ) (s : Sides) → own ≡ row.own → IsInRow b n row place s
-    → list ≡ squeezed_below row.own s.other n → AreNumbers b n own list s
+    → list ≡ squeeze_below row.own s.other n → AreNumbers b n own list s
 are_numbers b n row place own list s e at is = record {
   lawful = at.lawful;
   own = at.own ∙ sym e;
-  numbers = subst (λ o. list ≡ squeezed_below o s.other n) (sym e) is;
+  numbers = subst (λ o. list ≡ squeeze_below o s.other n) (sym e) is;
 }
 
 sum_same : (f g h : ℕ → ℕ) (xs : List ℕ) → ((x : ℕ) → Contains xs x → f (g x) ≡ h x) → sum_by f (map g xs) ≡ sum_by h xs
@@ -208,28 +208,28 @@ sum_same f g h (x ∷ xs) same =
     ∙ (ap₂ (λ a b. a + b) (same x (Contains-head x xs)) (sum_same f g h xs (λ y c. same y (Contains-tail x xs y c)))
     ∙ sym (sum_by-cons h x xs))
 
-module _ (b : Shape) (n : ℕ) (points : b.points ≡ n) (low : n ≤ 24) (kept : NumberedRow) (is : IsNumbered b n kept) (numbers : ℕ) (s : Sides)
-    (at : AreNumbers b n kept.row.own numbers s) where
+module _ (b : Shape) (n : ℕ) (points : b.points ≡ n) (low : n ≤ 24) (cache : NumberedRow) (is : IsNumbered b n cache) (numbers : ℕ) (s : Sides)
+    (at : AreNumbers b n cache.row.own numbers s) where
   other_within : s.other < 2 ^ n
   other_within = subst (λ k. s.other < 2 ^ k) points at.lawful.stones.other_within
 
-  apart : (p : ℕ) → has s.other p ≡ true → has kept.row.own p ≡ false
-  apart p here = false_from_ne_true (has kept.row.own p) (λ y.
+  apart : (p : ℕ) → has s.other p ≡ true → has cache.row.own p ≡ false
+  apart p here = false_from_ne_true (has cache.row.own p) (λ y.
       both_ways (has s.other p) (at.lawful.stones.apart p (ap (λ o. has o p) at.own ∙ y)) here)
 
-  few_arrive : (v : ℕ) → arrivals b kept.row.own v % 16 ≡ arrivals b s.own v
+  few_arrive : (v : ℕ) → arrivals b cache.row.own v % 16 ≡ arrivals b s.own v
   few_arrive v =
       omega (arith, arrivals-most b s.own v, (own_count s at.lawful.sized).1, ap (λ o. arrivals b o v) at.own)
 
-  by_numbers : sum_by (count_at kept.arrivals) (members numbers) ≡ sum_by (arrivals b s.own) (members s.other)
+  by_numbers : sum_by (count_at cache.arrivals) (members numbers) ≡ sum_by (arrivals b s.own) (members s.other)
   by_numbers =
-      ap (λ x. sum_by (count_at kept.arrivals) (members x)) at.numbers
-      ∙ (ap (sum_by (count_at kept.arrivals)) (numbers_members kept.row.own s.other apart n (omega arith) other_within)
-      ∙ sum_same (count_at kept.arrivals) (number_outside kept.row.own) (arrivals b s.own) (members s.other) (λ v c.
+      ap (λ x. sum_by (count_at cache.arrivals) (members x)) at.numbers
+      ∙ (ap (sum_by (count_at cache.arrivals)) (numbers_members cache.row.own s.other apart n (omega arith) other_within)
+      ∙ sum_same (count_at cache.arrivals) (number_outside cache.row.own) (arrivals b s.own) (members s.other) (λ v c.
       let here = has-member s.other v c in
       is.each v (point_lt s.other n v other_within here) (apart v here) ∙ few_arrive v))
 
-  pub quiet_by_numbers : length (filter is_quiet (moves_of b s)) + sum_by (count_at kept.arrivals) (members numbers) ≡ kept.row.all
+  pub quiet_by_numbers : length (filter is_quiet (moves_of b s)) + sum_by (count_at cache.arrivals) (members numbers) ≡ cache.row.all
   quiet_by_numbers =
       omega (
         arith,
@@ -239,16 +239,16 @@ module _ (b : Shape) (n : ℕ) (points : b.points ≡ n) (low : n ≤ 24) (kept 
         ap (λ o. total (arrivals b o) n) at.own,
       )
 
-  pub none_open : (open_ : ℕ) → ((k : ℕ) → has open_ k ≡ (has kept.closing k && not (has numbers k))) → open_ ≡ 0
+  pub none_open : (open_ : ℕ) → ((k : ℕ) → has open_ k ≡ (has cache.closing k && not (has numbers k))) → open_ ≡ 0
       → list_any is_capture (moves_of b s) ≡ false
   unfolding may_close
   none_open open_ each none = false_from_ne_true _ (λ h.
-      let v = some_closing b n points low s at.lawful kept.row (sym at.own) is.row h in
-      let parts = and_parts (ltb v.0 n) (may_close b kept.row.own v.0) (sym (is.row.closing v.0) ∙ v.1) in
+      let v = some_closing b n points low s at.lawful cache.row (sym at.own) is.row h in
+      let parts = and_parts (ltb v.0 n) (may_close b cache.row.own v.0) (sym (is.row.closing v.0) ∙ v.1) in
       let low_ : v.0 < n = ltb-true v.0 n parts.0 in
-      let free : has kept.row.own v.0 ≡ false = not-true (has kept.row.own v.0) (and_parts (not (has kept.row.own v.0)) _ parts.1).0 in
-      let shut : has kept.closing (number_outside kept.row.own v.0) ≡ true = is.closing v.0 low_ free ∙ v.1 in
-      let vacant : has numbers (number_outside kept.row.own v.0) ≡ false =
-      ap (λ x. has x (number_outside kept.row.own v.0)) at.numbers ∙ (number_has kept.row.own s.other apart n v.0 low_ free ∙ v.2) in
-      both_ways (has open_ (number_outside kept.row.own v.0)) (ap (λ t. has t (number_outside kept.row.own v.0)) none ∙ has-none _)
+      let free : has cache.row.own v.0 ≡ false = not-true (has cache.row.own v.0) (and_parts (not (has cache.row.own v.0)) _ parts.1).0 in
+      let shut : has cache.closing (number_outside cache.row.own v.0) ≡ true = is.closing v.0 low_ free ∙ v.1 in
+      let vacant : has numbers (number_outside cache.row.own v.0) ≡ false =
+      ap (λ x. has x (number_outside cache.row.own v.0)) at.numbers ∙ (number_has cache.row.own s.other apart n v.0 low_ free ∙ v.2) in
+      both_ways (has open_ (number_outside cache.row.own v.0)) (ap (λ t. has t (number_outside cache.row.own v.0)) none ∙ has-none _)
       (each _ ∙ and_from _ _ shut (ap not vacant)))

@@ -6,7 +6,7 @@ use Rattle.morris_board.specs.Boards.{Shape}
 use Rattle.morris_index.specs.Pairs.{Counts}
 use Rattle.morris_pairs.specs.declared.layout.Layout.{Layout}
 use Rattle.morris_pairs.specs.Entries.{entry_count}
-use Rattle.morris_pairs.specs.FileReading.{header_at, heading_in, header_in, body_length, file_length, StandsWithin, StandsInFile}
+use Rattle.morris_pairs.specs.FileReading.{header_at, check_header, header_in, body_length, file_length, StandsWithin, StandsInFile}
 use Rattle.morris_pairs.proofs.FileLaws.{header_in-parts}
 use Rattle.morris_pairs.proofs.ReadingLaws.{header_in-is}
 
@@ -34,11 +34,11 @@ module _ (board : Shape) (past : ℕ) where
   stands-short n (Some bytes) b few here = (here.0, omega (arith, here.1), here.2)
 
   -- a header was read, and then at most as many bytes as stand after it
-  pub stands-behind : (header : List ℕ) → length header ≡ 16 → (a b c : Option (List ℕ)) → Consumes a b header
+  pub stands-second_half : (header : List ℕ) → length header ≡ 16 → (a b c : Option (List ℕ)) → Consumes a b header
       → StandsWithin (body_length board (header_in board header)) b c → StandsInFile board past a c
-  stands-behind header long None b c read there = tt
-  stands-behind header long (Some bytes) None c read there = absurd read
-  stands-behind header long (Some bytes) (Some left) c read there =
+  stands-second_half header long None b c read there = tt
+  stands-second_half header long (Some bytes) None c read there = absurd read
+  stands-second_half header long (Some bytes) (Some left) c read there =
       let same : header_in board bytes ≡ header_in board header =
       ap (header_in board) read ∙ header_in-parts board header left long ∙ sym (header_in-is board header long) in
       stands-after (body_length board (header_in board header)) (file_length board bytes + past) header (Some bytes) (Some left) c read
@@ -53,7 +53,7 @@ stands-past board n past more (Some bytes) b c few here there =
 
 -- what stands after the header of a pair
 pub body_length-is : (board : Shape) (n : ℕ) → board.points ≡ n → (header : List ℕ) → length header ≡ 16 → (kind : Layout × Counts) (count : ℕ)
-    → heading_in board (header_at header) ≡ Ok kind → count ≡ entry_count board n kind.0 kind.1 → body_length board (header_in board header) ≡ 2 * count + 32
+    → check_header board (header_at header) ≡ Ok kind → count ≡ entry_count board n kind.0 kind.1 → body_length board (header_in board header) ≡ 2 * count + 32
 body_length-is board n points header long kind count named sized =
     ap (body_length board) (header_in-is board header long ∙ named)
     ∙ ap (λ k. 2 * k + 32) (ap (λ m. entry_count board m kind.0 kind.1) points ∙ sym sized)

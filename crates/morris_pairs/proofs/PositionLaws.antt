@@ -11,7 +11,7 @@ use Rattle.morris_index.specs.Numbering.{half_size, half_index, IsRanked}
 use Rattle.morris_index.specs.Pairs.{Counts, IsPair, has_counts, is_of, size_of, index_of}
 use Rattle.morris_index.specs.Classes.{representative_of, is_representative, classes_below, class_of, class_count}
 use Rattle.morris_index.specs.ClassPairs.{class_half_size, class_half_index, class_size_of, class_index_of}
-use Rattle.morris_index.specs.Facing.{turned}
+use Rattle.morris_index.specs.ByOpponent.{swap_sides}
 use Rattle.morris_index.proofs.FacingLaws.{turned_of, turned_position}
 use Rattle.morris_index.proofs.IndexLaws.{IsPlaced, own_part-lt, other_part-lt, half_index-ranked, is_of-first, is_of-second, index-in_first, index-in_second, second_half}
 use Rattle.morris_index.proofs.ClassLaws.{test_parts, one_more, no_more}
@@ -19,8 +19,8 @@ use Rattle.morris_index.proofs.ClassLaws.{none_below as no_classes_below}
 use Rattle.morris_index.proofs.ClassPairLaws.{choices_some, class_part-lt, class_index-of, index-first, index-second}
 use Rattle.morris_index.proofs.ClassPairLaws.{other_part-lt as class_other_part-lt, second_half as class_second_half}
 use Rattle.morris_pairs.specs.declared.layout.Layout.{Layout}
-use Rattle.morris_pairs.specs.Orders.{Order, Full, Classes, Rows, order_of, is_ahead, row_size_of, row_index_of, count_in, index_in, own_in}
-use Rattle.morris_pairs.specs.EntryLaws.{position_of, laid_in, ahead-yes, ahead-no, row_size-one, row_size-two, row_index-ahead, row_index-behind}
+use Rattle.morris_pairs.specs.Orders.{Order, Full, Classes, Rows, order_of, is_first_half, row_size_of, row_index_of, count_in, index_in, own_in}
+use Rattle.morris_pairs.specs.EntryLaws.{position_of, laid_in, to_first_half-yes, to_first_half-no, row_size-one, row_size-two, row_index-to_first_half, row_index-second_half}
 use Rattle.morris_pairs.specs.PairNets.{at_index}
 use Rattle.morris_pairs.specs.NetLaws.{at_index-is}
 use Rattle.morris_pairs.proofs.RankedSets.{ranked_set}
@@ -165,14 +165,14 @@ module _ (board : Shape) (few : board.points ≤ 24) (y : HasSymmetries board) w
           let found = class_indexed_at c.greater c.lesser i first in
           let s : Sides = found.0 in
           let of = is_of-first c s (has_both board.points c.greater c.lesser s found.1) in
-          let e : is_ahead s ≡ true = le-leb (count_of s.other) (count_of s.own) (omega (arith, found.1.own_count, found.1.other_count, pair.ordered)) in (
+          let e : is_first_half s ≡ true = le-leb (count_of s.other) (count_of s.own) (omega (arith, found.1.own_count, found.1.other_count, pair.ordered)) in (
             s,
             record {
               position = position_of board c s pair found.1.placed of;
               of = of;
-              own = subst (λ (u : Sides). eqb (representative_of board u.own) u.own ≡ true) (sym (ahead-yes s e))
+              own = subst (λ (u : Sides). eqb (representative_of board u.own) u.own ≡ true) (sym (to_first_half-yes s e))
                   (eq-eqb (representative_of board s.own) s.own found.2);
-              entry = row_index-ahead board board.points c s e ∙ found.3;
+              entry = row_index-to_first_half board board.points c s e ∙ found.3;
             },
           )
       | inr second ↦ elim (cases_eq c.greater c.lesser) [
@@ -181,17 +181,17 @@ module _ (board : Shape) (few : board.points ≤ 24) (y : HasSymmetries board) w
             let found = class_indexed_at c.greater c.lesser (i - class_half_size board board.points c.greater c.lesser)
             (omega (arith, low, second, row_size-two board board.points c differ)) in
             let u : Sides = found.0 in
-            let s : Sides = turned u in
+            let s : Sides = swap_sides u in
             let u_of : is_of c u ≡ true = is_of-first c u (has_both board.points c.greater c.lesser u found.1) in
-            let e : is_ahead s ≡ false =
+            let e : is_first_half s ≡ false =
             lt-leb (count_of u.own) (count_of u.other) (omega (arith, found.1.own_count, found.1.other_count, pair.ordered, differ)) in
             let at : row_index_of board board.points c s ≡ class_half_size board board.points c.greater c.lesser + class_half_index board board.points u =
-            row_index-behind board board.points c s e in (
+            row_index-second_half board board.points c s e in (
               s,
               record {
                 position = turned_position board board.points few refl y c pair u (position_of board c u pair found.1.placed u_of) u_of;
                 of = turned_of c u u_of;
-                own = subst (λ (v : Sides). eqb (representative_of board v.own) v.own ≡ true) (sym (ahead-no s e))
+                own = subst (λ (v : Sides). eqb (representative_of board v.own) v.own ≡ true) (sym (to_first_half-no s e))
                     (eq-eqb (representative_of board u.own) u.own found.2);
                 entry = omega (arith, at, found.3, second);
               },

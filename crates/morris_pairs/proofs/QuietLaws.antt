@@ -7,7 +7,7 @@ use Rattle.std.specs.List.{flat_map}
 use Rattle.morris_board.specs.Sets.{members}
 use Rattle.morris_board.specs.Boards.{Shape}
 use Rattle.morris_board.specs.Positions.{Sides}
-use Rattle.morris_moves.specs.Rules.{closes, takable, reach, move, moves_to, moves_from, moves_of}
+use Rattle.morris_moves.specs.Rules.{closes, takable_stones, reach, move, moves_to, moves_from, moves_of}
 use Rattle.morris_pairs.specs.PairNets.{is_quiet}
 
 module _ (b : Shape) (s : Sides) where
@@ -18,7 +18,7 @@ module _ (b : Shape) (s : Sides) where
   quiet_to : (u v : ℕ) → length (filter is_quiet (moves_to b s u v)) ≡ cond (closes b s.own u v) 0 1
   unfolding moves_to
   quiet_to u v = elim (cases_Bool (closes b s.own u v)) [
-    | inl y ↦ rw y (ap length (none_quiet u v (members (takable b s.other))))
+    | inl y ↦ rw y (ap length (none_quiet u v (members (takable_stones b s.other))))
     | inr n ↦ rw n refl
   ]
 

@@ -14,7 +14,7 @@ use Rattle.morris_pairs.specs.declared.header.Header.{Header}
 use Rattle.morris_pairs.specs.Entries.{entry_count}
 use Rattle.morris_pairs.specs.Tables.{Table, table}
 use Rattle.morris_pairs.specs.TableFiles.{code_bytes}
-use Rattle.morris_pairs.specs.FileReading.{unless, and_then, is_end, header_at, kind_in, counted_in, heading_in, before_room, roomless_in, header_in, file_in, only_file_in, next_file_in, Reads, MayTakeRoom, EndsEarly, CountsRead, IsHeadingRefusal}
+use Rattle.morris_pairs.specs.FileReading.{unless, and_then, is_end, header_at, kind_in, check_count, check_header, before_room, roomless_in, header_in, file_in, only_file_in, next_file_in, Reads, MayTakeRoom, EndsEarly, CountsRead, IsHeaderRefusal}
 use Rattle.morris_pairs.proofs.FileLaws.{AreCodes, body_in-parts, body_in-short, header_in-parts, header_in-short, file_in-parts, file_in-refused}
 use Rattle.morris_pairs.specs.declared.file_faults.ReadFault.{ReadFault}
 use Rattle.morris_pairs.specs.declared.file_faults.ReadFault.TheVariants as fault
@@ -131,7 +131,7 @@ counts_after old mid new fault.Memory none counted = counted ∙ none
 counts_after old mid new fault.Read none counted = counted ∙ ap (λ n. n + 1) none
 
 -- a header was refused, for which nothing is read
-pub counts_header : (board : Shape) (header : Header) (count : ℕ) (refusal : ReadFault) → IsHeadingRefusal board header refusal
+pub counts_header : (board : Shape) (header : Header) (count : ℕ) (refusal : ReadFault) → IsHeaderRefusal board header refusal
     → CountsRead {A = ℕ} count count (Err refusal)
 counts_header board header count fault.Short why = refl
 counts_header board header count fault.Magic why = refl
@@ -180,7 +180,7 @@ reads_on_ok f g (Some bytes) (Some mid) new front x y read lift answer = (answer
 
 -- ---- the steps before room is taken
 
-before_room_ok : (board : Shape) (h : Header) (kind found : Layout × Counts) → counted_in board h kind ≡ Ok found → IsOk (before_room board h kind)
+before_room_ok : (board : Shape) (h : Header) (kind found : Layout × Counts) → check_count board h kind ≡ Ok found → IsOk (before_room board h kind)
 before_room_ok board h (Full, pair) found passed = rw passed refl
 before_room_ok board h (Classes, pair) found passed = refl
 
@@ -191,18 +191,18 @@ room_refused board h Full pair passed other = absurd (other refl)
 room_refused board h Classes pair passed other = rw (← passed) refl
 
 -- a heading that is accepted passes the steps before room is taken
-pub roomless_of : (board : Shape) (h : Header) (kind : Layout × Counts) → heading_in board h ≡ Ok kind → IsOk (roomless_in board h)
-unfolding heading_in roomless_in
+pub roomless_of : (board : Shape) (h : Header) (kind : Layout × Counts) → check_header board h ≡ Ok kind → IsOk (roomless_in board h)
+unfolding check_header roomless_in
 roomless_of board h kind named = from (kind_in board h) named
   where
-    from : (r : Result (Layout × Counts) ReadFault) → and_then r (counted_in board h) ≡ Ok kind → IsOk (and_then r (before_room board h))
+    from : (r : Result (Layout × Counts) ReadFault) → and_then r (check_count board h) ≡ Ok kind → IsOk (and_then r (before_room board h))
     from (Ok x) passed = before_room_ok board h x kind passed
     from (Err refusal) passed = cc
 
 -- ---- what stands after a header
 
 module _ (board : Shape) (header : List ℕ) (long : length header ≡ 16) where
-  pub header_in-is : header_in board header ≡ heading_in board (header_at header)
+  pub header_in-is : header_in board header ≡ check_header board (header_at header)
   header_in-is = ap (header_in board) (sym (append-nil header)) ∙ header_in-parts board header [] long
 
   -- what the steps before room find in a front of known bytes, they find in all of them
@@ -215,10 +215,10 @@ module _ (board : Shape) (header : List ℕ) (long : length header ≡ 16) where
         rw front ok,
       )
 
-  pub file_in-bad_header : (bytes : List ℕ) (refusal : ReadFault) → heading_in board (header_at header) ≡ Err refusal → file_in board (header ++ bytes) ≡ Err refusal
+  pub file_in-bad_header : (bytes : List ℕ) (refusal : ReadFault) → check_header board (header_at header) ≡ Err refusal → file_in board (header ++ bytes) ≡ Err refusal
   file_in-bad_header bytes refusal refused = file_in-refused board (header ++ bytes) refusal (header_in-parts board header bytes long ∙ refused)
 
-  module _ (kind : Layout × Counts) (n : ℕ) (named : heading_in board (header_at header) ≡ Ok kind) (sized : n ≡ entry_count board board.points kind.0 kind.1) where
+  module _ (kind : Layout × Counts) (n : ℕ) (named : check_header board (header_at header) ≡ Ok kind) (sized : n ≡ entry_count board board.points kind.0 kind.1) where
     pub file_in-short_body : (bytes : List ℕ) → length bytes < 2 * n + 32 → file_in board (header ++ bytes) ≡ Err fault.Short
     file_in-short_body bytes few = file_in-parts board header bytes kind long named ∙ body_in-short kind (entry_count board board.points kind.0 kind.1) header bytes (omega arith)
 

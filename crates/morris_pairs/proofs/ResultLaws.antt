@@ -9,7 +9,7 @@ use Rattle.morris_board.specs.Positions.{Sides, IsPosition}
 use Rattle.morris_board.specs.Symmetries.{image_of, image_sides, inverse_of, IsSymmetry, HasSymmetries}
 use Rattle.morris_board.proofs.PointsLaws.{same_test}
 use Rattle.morris_board.proofs.ImageLaws.{IsOneToOne, one_to_one, IsPosition-image, count_of-image, image_sides-undone}
-use Rattle.morris_moves.specs.declared.step.Move.{Move}
+use Rattle.morris_moves.specs.declared.game_move.Move.{Move}
 use Rattle.morris_moves.specs.Rules.{moves_of, left_of, result_of}
 use Rattle.morris_moves.specs.Images.{HaveOneValue}
 use Rattle.morris_moves.proofs.ListLaws.{all_contained, contained_all, any_contained, contained_any}
@@ -17,13 +17,13 @@ use Rattle.morris_moves.proofs.LegalLaws.{listed_is_legal}
 use Rattle.morris_moves.proofs.SymmetryLaws.{image_move, legal_goes, IsSeen, listed_goes, seen_from, HaveOneValue-image}
 use Rattle.morris_index.specs.Classes.{symmetry_of}
 use Rattle.morris_index.specs.ClassPairs.{class_index_of}
-use Rattle.morris_index.specs.Facing.{IsLedBack}
+use Rattle.morris_index.specs.ByOpponent.{IsInTransversal}
 use Rattle.morris_index.specs.Pairs.{is_of}
 use Rattle.morris_wave.specs.Values.{is_lost_exit, is_won_exit}
 use Rattle.morris_pairs.specs.Agreement.{code_from, stated_code, result_codes}
 use Rattle.morris_pairs.specs.Codes.{code_to}
 use Rattle.morris_pairs.specs.Entries.{entry_index}
-use Rattle.morris_pairs.specs.EntryLaws.{led-classes}
+use Rattle.morris_pairs.specs.EntryLaws.{canonical_form-classes}
 use Rattle.morris_pairs.specs.FilterLaws.{list_any-map}
 use Rattle.morris_pairs.specs.NetLaws.{points_few, quiet-stays, result-position}
 use Rattle.morris_pairs.specs.PairNets.{is_quiet}
@@ -115,13 +115,13 @@ own_after s m quiet = left_whole s.other m.taken quiet
 -- Where the way back from the image of a position leads the opponent's stones to the representative
 -- on which they stand, both have one code by their results.
 pub same_code_after : (board : Shape) → is_board board ≡ true → HasSymmetries board → (t : Table) → t.layout ≡ Classes
-    → (s : Sides) → IsPosition board s → is_of t.pair s ≡ true → (k : ℕ) → IsLedBack board s k
+    → (s : Sides) → IsPosition board s → is_of t.pair s ≡ true → (k : ℕ) → IsInTransversal board s k
     → code_from (result_codes board t (image_sides (board.image k) s)) ≡ code_from (result_codes board t s)
-same_code_after board lawful y t classes s h of k led =
+same_code_after board lawful y t classes s h of k canonical_form =
     let few : board.points ≤ 24 = points_few board lawful in
-    code-image board few (board.image k) (board.image (inverse_of k)) (y.symmetry k led.within) t s h (λ m listed quiet.
+    code-image board few (board.image k) (board.image (inverse_of k)) (y.symmetry k canonical_form.within) t s h (λ m listed quiet.
     let f : ℕ → ℕ = board.image k in
-    let one : IsOneToOne board.points f (board.image (inverse_of k)) = one_to_one board _ _ (y.symmetry k led.within) in
+    let one : IsOneToOne board.points f (board.image (inverse_of k)) = one_to_one board _ _ (y.symmetry k canonical_form.within) in
     let r : Sides = result_of s m in
     let there : IsPosition board r = result-position board few s h m listed in
     let belongs : is_of t.pair r ≡ true = quiet-stays board few s h m listed t.pair of quiet in
@@ -132,8 +132,8 @@ same_code_after board lawful y t classes s h of k led =
       count_of-image board.points few f (board.image (inverse_of k)) one r.other there.stones.other_within,
     ) belongs in
     let back : image_sides (board.image (symmetry_of board x.own)) x ≡ r =
-    ap (λ j. image_sides (board.image j) x) (ap (λ o. symmetry_of board (image_of f o)) (own_after s m quiet) ∙ led.back)
+    ap (λ j. image_sides (board.image j) x) (ap (λ o. symmetry_of board (image_of f o)) (own_after s m quiet) ∙ canonical_form.back)
     ∙ image_sides-undone board few f (board.image (inverse_of k)) one r there.stones in
     let index : class_index_of board board.points t.pair x ≡ class_index_of board board.points t.pair r =
-    sym ((led-classes board few y t.pair).there x x_there x_of) ∙ ap (class_index_of board board.points t.pair) back in
+    sym ((canonical_form-classes board few y t.pair).there x x_there x_of) ∙ ap (class_index_of board board.points t.pair) back in
     rw classes index)

@@ -18,7 +18,7 @@ use Rattle.morris_moves.proofs.MaskLaws.{reach-lt}
 use Rattle.morris_moves.proofs.SetLaws.{has-member, member-has}
 use Rattle.morris_index.proofs.RankLaws.{passing, passing-yes, passing-no, members-passing}
 use Rattle.morris_index.proofs.Moving.{total, total-zero, total-suc}
-use Rattle.morris_wave.specs.declared.network.Exits.{Exits}
+use Rattle.morris_wave.specs.declared.graph.Exits.{Exits}
 use Rattle.morris_wave.specs.Exits.{no_exits}
 use Rattle.morris_wave.specs.Solving.{exits_at}
 use Rattle.morris_pairs.specs.PairNets.{is_quiet}
@@ -198,11 +198,11 @@ module _ (b : Shape) (own : ℕ) where
   may_close-all v y = rw y refl
 
 -- an array whose entries are those of a function, one more at a time
-pub each_more : (f : ℕ → ℕ) (kept : List ℕ) (k x : ℕ) → k < length kept → x ≡ f k → ((v : ℕ) → v < k → slice_index kept v ≡ f v)
-    → (v : ℕ) → v < k + 1 → slice_index (slice_set kept k x) v ≡ f v
-each_more f kept k x inside is before v h = elim (cases_eq v k) [
-  | inl e ↦ get_or-set_at kept k v x 0 e inside ∙ (is ∙ ap f (sym e))
-  | inr d ↦ get_or-set_other kept k v x 0 d ∙ before v (omega arith)
+pub each_more : (f : ℕ → ℕ) (cache : List ℕ) (k x : ℕ) → k < length cache → x ≡ f k → ((v : ℕ) → v < k → slice_index cache v ≡ f v)
+    → (v : ℕ) → v < k + 1 → slice_index (slice_set cache k x) v ≡ f v
+each_more f cache k x inside is before v h = elim (cases_eq v k) [
+  | inl e ↦ get_or-set_at cache k v x 0 e inside ∙ (is ∙ ap f (sym e))
+  | inr d ↦ get_or-set_other cache k v x 0 d ∙ before v (omega arith)
 ]
 
 -- a set of the points that pass a test, one more at a time
@@ -316,9 +316,9 @@ no_mask s h = elim (cases_eq s 0) [
   | inr d ↦ absurd (both_ways (not (eqb s 0)) h (ap not (ne_eqb s 0 d)))
 ]
 
-pub exits_more : (f : ℕ → Exits) (kept : List Exits) (k : ℕ) (x : Exits) → k < length kept → x ≡ f k → ((v : ℕ) → v < k → exits_at kept v ≡ f v)
-    → (v : ℕ) → v < k + 1 → exits_at (slice_set kept k x) v ≡ f v
-exits_more f kept k x inside is before v h = elim (cases_eq v k) [
-  | inl e ↦ get_or-set_at kept k v x no_exits e inside ∙ (is ∙ ap f (sym e))
-  | inr d ↦ get_or-set_other kept k v x no_exits d ∙ before v (omega arith)
+pub exits_more : (f : ℕ → Exits) (cache : List Exits) (k : ℕ) (x : Exits) → k < length cache → x ≡ f k → ((v : ℕ) → v < k → exits_at cache v ≡ f v)
+    → (v : ℕ) → v < k + 1 → exits_at (slice_set cache k x) v ≡ f v
+exits_more f cache k x inside is before v h = elim (cases_eq v k) [
+  | inl e ↦ get_or-set_at cache k v x no_exits e inside ∙ (is ∙ ap f (sym e))
+  | inr d ↦ get_or-set_other cache k v x no_exits d ∙ before v (omega arith)
 ]

@@ -8,20 +8,20 @@ use Rattle.morris_board.specs.Sets.{count_of}
 use Rattle.morris_board.specs.Positions.{Sides, sides, IsPosition}
 use Rattle.morris_board.specs.Symmetries.{image_of, image_sides, inverse_of, HasSymmetries}
 use Rattle.morris_board.proofs.ImageLaws.{one_to_one, count_of-image}
-use Rattle.morris_index.specs.Carried.{carries}
-use Rattle.morris_index.specs.Classes.{is_leading, symmetry_of, representative_of}
+use Rattle.morris_index.specs.Unmoves.{gives_unmove}
+use Rattle.morris_index.specs.Classes.{is_canonicalizing, symmetry_of, representative_of}
 use Rattle.morris_index.specs.ClassPairs.{class_half_size, class_half_index, class_index_of}
-use Rattle.morris_index.specs.Facing.{turned}
-use Rattle.morris_index.specs.Moves.{taken_back}
+use Rattle.morris_index.specs.ByOpponent.{swap_sides}
+use Rattle.morris_index.specs.Moves.{unmove_sides}
 use Rattle.morris_index.specs.Pairs.{Counts, IsPair, is_of}
-use Rattle.morris_index.proofs.ClassLaws.{image_none, image_within, led_least, representative_symmetry, representative_twice}
+use Rattle.morris_index.proofs.ClassLaws.{image_none, image_within, canonical_least, representative_symmetry, representative_twice}
 use Rattle.morris_index.proofs.ClassPairLaws.{class_below, class_index-lt, index-first, index-second}
 use Rattle.morris_index.proofs.FacingLaws.{turned_of}
-use Rattle.morris_pairs.specs.Backward.{rows_before}
-use Rattle.morris_pairs.specs.EntryLaws.{laid_in, ahead-yes, ahead-no, ahead_cases, is_ahead-image, row_size-two, row_index-ahead, row_index-behind}
-use Rattle.morris_pairs.specs.Orders.{Rows, is_ahead, ahead, row_size_of, row_index_of, own_in}
+use Rattle.morris_pairs.specs.Predecessors.{predecessors_in_rows}
+use Rattle.morris_pairs.specs.EntryLaws.{laid_in, to_first_half-yes, to_first_half-no, first_half_cases, is_first_half-image, row_size-two, row_index-to_first_half, row_index-second_half}
+use Rattle.morris_pairs.specs.Orders.{Rows, is_first_half, to_first_half, row_size_of, row_index_of, own_in}
 use Rattle.morris_pairs.specs.PairNets.{level_in, net_at}
-use Rattle.morris_pairs.proofs.ClassBackLaws.{leading_from}
+use Rattle.morris_pairs.proofs.ClassBackLaws.{canonicalizing_from}
 use Rattle.morris_pairs.proofs.GraphLaws.{size_at}
 
 -- ---- lists of the numbers that pass a test
@@ -50,8 +50,8 @@ module _ (board : Shape) (n : ℕ) (few : n ≤ 24) (points : board.points ≡ n
   size-two_halves = row_size-two board n c differ
 
   -- a position with an entry of the first half by classes
-  pub first_ahead : (s : Sides) → is_of c s ≡ true → class_index_of board n c s < half → is_ahead s ≡ true
-  first_ahead s of low = elim (ahead_cases n c pair s of) [
+  pub first_first_half : (s : Sides) → is_of c s ≡ true → class_index_of board n c s < half → is_first_half s ≡ true
+  first_first_half s of low = elim (first_half_cases n c pair s of) [
     | inl a ↦ a.0
     | inr b ↦
         let own : count_of s.own ≢ c.greater = λ e. omega (arith, e, b.2, two) in
@@ -59,28 +59,28 @@ module _ (board : Shape) (n : ℕ) (few : n ≤ 24) (points : board.points ≡ n
   ]
 
   -- one in which the player to move has the greater number
-  pub greater_ahead : (s : Sides) → is_of c s ≡ true → count_of s.own ≡ c.greater → is_ahead s ≡ true
-  greater_ahead s of own = elim (ahead_cases n c pair s of) [
+  pub greater_first_half : (s : Sides) → is_of c s ≡ true → count_of s.own ≡ c.greater → is_first_half s ≡ true
+  greater_first_half s of own = elim (first_half_cases n c pair s of) [
     | inl a ↦ a.0
     | inr b ↦ absurd (omega (arith, own, b.2, two))
   ]
 
-  module _ (s : Sides) (of : is_of c s ≡ true) (e : is_ahead s ≡ true) where
+  module _ (s : Sides) (of : is_of c s ≡ true) (e : is_first_half s ≡ true) where
     pub own_greater : (count_of s.own ≡ c.greater) × (count_of s.other ≡ c.lesser)
-    own_greater = elim (ahead_cases n c pair s of) [
+    own_greater = elim (first_half_cases n c pair s of) [
       | inl a ↦ (a.1, a.2)
-      | inr b ↦ absurd (both_ways (is_ahead s) b.0 e)
+      | inr b ↦ absurd (both_ways (is_first_half s) b.0 e)
     ]
 
-    pub index-ahead : row_index_of board n c s ≡ class_index_of board n c s
-    index-ahead = row_index-ahead board n c s e ∙ sym (index-first board n few points y c s own_greater.0)
+    pub index-to_first_half : row_index_of board n c s ≡ class_index_of board n c s
+    index-to_first_half = row_index-to_first_half board n c s e ∙ sym (index-first board n few points y c s own_greater.0)
 
-    pub turned_behind : is_ahead (turned s) ≡ false
-    turned_behind = lt-leb (count_of s.own) (count_of s.other) (omega (arith, own_greater.0, own_greater.1, two))
+    pub swapped_second_half : is_first_half (swap_sides s) ≡ false
+    swapped_second_half = lt-leb (count_of s.own) (count_of s.other) (omega (arith, own_greater.0, own_greater.1, two))
 
-    pub index-turned : row_index_of board n c (turned s) ≡ half + class_index_of board n c s
-    index-turned =
-        let at : row_index_of board n c (turned s) ≡ half + class_half_index board n s = row_index-behind board n c (turned s) turned_behind in
+    pub index-swap_sides : row_index_of board n c (swap_sides s) ≡ half + class_index_of board n c s
+    index-swap_sides =
+        let at : row_index_of board n c (swap_sides s) ≡ half + class_half_index board n s = row_index-second_half board n c (swap_sides s) swapped_second_half in
         at ∙ ap (λ i. half + i) (sym (index-first board n few points y c s own_greater.0))
 
     pub first_index-lt : IsPosition board s → class_index_of board n c s < half
@@ -93,30 +93,30 @@ module _ (board : Shape) (n : ℕ) (few : n ≤ 24) (points : board.points ≡ n
         omega (arith, here, index-first board n few points y c s own_greater.0)
 
     module _ (least : representative_of board s.own ≡ s.own) where
-      pub own-ahead : own_in board Rows s ≡ true
-      own-ahead = subst (λ (u : Sides). eqb (representative_of board u.own) u.own ≡ true) (sym (ahead-yes s e)) (eq-eqb (representative_of board s.own) s.own least)
+      pub own-to_first_half : own_in board Rows s ≡ true
+      own-to_first_half = subst (λ (u : Sides). eqb (representative_of board u.own) u.own ≡ true) (sym (to_first_half-yes s e)) (eq-eqb (representative_of board s.own) s.own least)
 
-      pub own-turned : own_in board Rows (turned s) ≡ true
-      own-turned =
-          subst (λ (u : Sides). eqb (representative_of board u.own) u.own ≡ true) (sym (ahead-no (turned s) turned_behind))
+      pub own-swap_sides : own_in board Rows (swap_sides s) ≡ true
+      own-swap_sides =
+          subst (λ (u : Sides). eqb (representative_of board u.own) u.own ≡ true) (sym (to_first_half-no (swap_sides s) swapped_second_half))
           (eq-eqb (representative_of board s.own) s.own least)
 
   -- a position with an entry of the second half by classes
-  pub second_behind : (s : Sides) → IsPosition board s → is_of c s ≡ true → half ≤ class_index_of board n c s → is_ahead s ≡ false
-  second_behind s h of high = elim (cases_Bool (is_ahead s)) [
+  pub second_second_half : (s : Sides) → IsPosition board s → is_of c s ≡ true → half ≤ class_index_of board n c s → is_first_half s ≡ false
+  second_second_half s h of high = elim (cases_Bool (is_first_half s)) [
     | inl e ↦ absurd (omega (arith, high, first_index-lt s of e h))
     | inr e ↦ e
   ]
 
   module _ (s : Sides) (of : is_of c s ≡ true) where
-    pub behind_turned : is_ahead s ≡ false → is_ahead (turned s) ≡ true
-    behind_turned e = elim (ahead_cases n c pair s of) [
-      | inl a ↦ absurd (both_ways (is_ahead s) e a.0)
+    pub second_half_swapped : is_first_half s ≡ false → is_first_half (swap_sides s) ≡ true
+    second_half_swapped e = elim (first_half_cases n c pair s of) [
+      | inl a ↦ absurd (both_ways (is_first_half s) e a.0)
       | inr b ↦ le-leb (count_of s.own) (count_of s.other) (omega (arith, b.2, b.3, two))
     ]
 
-    pub index-behind : is_ahead s ≡ false → row_index_of board n c s ≡ half + class_index_of board n c (turned s)
-    index-behind e = index-turned (turned s) (turned_of c s of) (behind_turned e)
+    pub index-second_half : is_first_half s ≡ false → row_index_of board n c s ≡ half + class_index_of board n c (swap_sides s)
+    index-second_half e = index-swap_sides (swap_sides s) (turned_of c s of) (second_half_swapped e)
 
     pub row-below : IsPosition board s → row_index_of board n c s < row_size_of board n c
     row-below h =
@@ -131,20 +131,20 @@ module _ (board : Shape) (n : ℕ) (few : n ≤ 24) (points : board.points ≡ n
   prior_of p q of own other = rw (own, other) (turned_of c p of)
 
   module _ (p q : Sides) (of : is_of c p ≡ true) (own : count_of q.own ≡ count_of p.other) (other : count_of q.other ≡ count_of p.own) where
-    pub prior_behind : is_ahead p ≡ true → is_ahead q ≡ false
-    prior_behind e = ap₂ (λ a b. leb a b) other own ∙ turned_behind p of e
+    pub prior_second_half : is_first_half p ≡ true → is_first_half q ≡ false
+    prior_second_half e = ap₂ (λ a b. leb a b) other own ∙ swapped_second_half p of e
 
-    pub prior_ahead : is_ahead p ≡ false → is_ahead q ≡ true
-    prior_ahead e = elim (ahead_cases n c pair q (prior_of p q of own other)) [
+    pub prior_first_half : is_first_half p ≡ false → is_first_half q ≡ true
+    prior_first_half e = elim (first_half_cases n c pair q (prior_of p q of own other)) [
       | inl a ↦ a.0
-      | inr b ↦ elim (ahead_cases n c pair p of) [
-        | inl a ↦ absurd (both_ways (is_ahead p) e a.0)
+      | inr b ↦ elim (first_half_cases n c pair p of) [
+        | inl a ↦ absurd (both_ways (is_first_half p) e a.0)
         | inr a ↦ absurd (omega (arith, two, own, b.2, a.3))
       ]
     ]
 
   -- the image of a position with more stones of the player to move
-  module _ (q : Sides) (h : IsPosition board q) (of : is_of c q ≡ true) (e : is_ahead q ≡ true) (s : ℕ) (s_low : s < board.symmetries) where
+  module _ (q : Sides) (h : IsPosition board q) (of : is_of c q ≡ true) (e : is_first_half q ≡ true) (s : ℕ) (s_low : s < board.symmetries) where
     image_in_pair : is_of c (image_sides (board.image s) q) ≡ true
     image_in_pair =
         let low : board.points ≤ 24 = omega arith in
@@ -154,7 +154,7 @@ module _ (board : Shape) (n : ℕ) (few : n ≤ 24) (points : board.points ≡ n
     pub image_index : row_index_of board n c (image_sides (board.image s) q) ≡ class_index_of board n c (image_sides (board.image s) q)
     image_index =
         let low : board.points ≤ 24 = omega arith in
-        index-ahead (image_sides (board.image s) q) image_in_pair (is_ahead-image board low y s s_low q h ∙ e)
+        index-to_first_half (image_sides (board.image s) q) image_in_pair (is_first_half-image board low y s s_low q h ∙ e)
 
 -- ---- the symmetries that carry a move
 
@@ -164,14 +164,14 @@ module _ (board : Shape) (n : ℕ) (few : n ≤ 24) (points : board.points ≡ n
 
   -- a symmetry leads a set where it takes it to the representative
   pub leading_test : (set s : ℕ) → set < 2 ^ board.points → s < board.symmetries
-      → eqb (image_of (board.image s) set) (image_of (board.image (symmetry_of board set)) set) ≡ is_leading board set s
+      → eqb (image_of (board.image s) set) (image_of (board.image (symmetry_of board set)) set) ≡ is_canonicalizing board set s
   unfolding representative_of
-  leading_test set s within s_low = elim (cases_Bool (is_leading board set s)) [
+  leading_test set s within s_low = elim (cases_Bool (is_canonicalizing board set s)) [
     | inl there ↦
-        eq-eqb (image_of (board.image s) set) (image_of (board.image (symmetry_of board set)) set) (led_least board set s s_low there) ∙ sym there
+        eq-eqb (image_of (board.image s) set) (image_of (board.image (symmetry_of board set)) set) (canonical_least board set s s_low there) ∙ sym there
     | inr not_so ↦
-        ne_eqb (image_of (board.image s) set) (image_of (board.image (symmetry_of board set)) set) (λ e. both_ways (is_leading board set s) not_so
-        (leading_from board low y s s_low set within (ap (representative_of board) e ∙ representative_twice board low y set within ∙ sym e)
+        ne_eqb (image_of (board.image s) set) (image_of (board.image (symmetry_of board set)) set) (λ e. both_ways (is_canonicalizing board set s) not_so
+        (canonicalizing_from board low y s s_low set within (ap (representative_of board) e ∙ representative_twice board low y set within ∙ sym e)
         (image_within board low y set within s s_low)))
         ∙ sym not_so
   ]
@@ -185,52 +185,52 @@ module _ (board : Shape) (n : ℕ) (few : n ≤ 24) (points : board.points ≡ n
 
   -- a representative stays where it is under just one symmetry of those whose way back leads it
   module _ (p : Sides) (within : p.own < 2 ^ board.points) (least : representative_of board p.own ≡ p.own) where
-    led_none : symmetry_of board p.own ≡ 0
-    led_none = ap (symmetry_of board) (sym least) ∙ representative_symmetry board low y p.own within
+    canonical_none : symmetry_of board p.own ≡ 0
+    canonical_none = ap (symmetry_of board) (sym least) ∙ representative_symmetry board low y p.own within
 
-    none_carries : carries board p p.own 0 ≡ true
+    none_carries : gives_unmove board p p.own 0 ≡ true
     none_carries =
         let stays : image_of (board.image 0) p.own ≡ p.own = image_none board low y p.own within in
         and_from _ _
-        (leading_from board low y 0 y.some p.own within (ap (representative_of board) stays ∙ least ∙ sym stays) (image_within board low y p.own within 0 y.some))
-        (eq-eqb _ _ (ap (symmetry_of board) stays ∙ led_none ∙ sym inverse_none))
+        (canonicalizing_from board low y 0 y.some p.own within (ap (representative_of board) stays ∙ least ∙ sym stays) (image_within board low y p.own within 0 y.some))
+        (eq-eqb _ _ (ap (symmetry_of board) stays ∙ canonical_none ∙ sym inverse_none))
 
-    others_not : (s : ℕ) → 0 < s → s < board.symmetries → carries board p p.own s ≡ false
+    others_not : (s : ℕ) → 0 < s → s < board.symmetries → gives_unmove board p p.own s ≡ false
     others_not s some s_low = false_from_ne_true _ (λ carried.
-        let parts = and_parts (is_leading board p.own s) _ carried in
-        let stays : image_of (board.image s) p.own ≡ p.own = led_least board p.own s s_low parts.0 ∙ least in
-        let back : 0 ≡ inverse_of s = sym led_none ∙ ap (symmetry_of board) (sym stays) ∙ eqb-true _ _ parts.1 in
+        let parts = and_parts (is_canonicalizing board p.own s) _ carried in
+        let stays : image_of (board.image s) p.own ≡ p.own = canonical_least board p.own s s_low parts.0 ∙ least in
+        let back : 0 ≡ inverse_of s = sym canonical_none ∙ ap (symmetry_of board) (sym stays) ∙ eqb-true _ _ parts.1 in
         let none : s ≡ 0 = sym (y.inverse_twice s s_low) ∙ ap inverse_of (sym back) ∙ inverse_none in
         omega (arith, none, some))
 
-    only_none : filter (carries board p p.own) (range_with_len 0 board.symmetries) ≡ 0 ∷ []
-    only_none = only_first (carries board p p.own) board.symmetries y.some none_carries others_not
+    only_none : filter (gives_unmove board p p.own) (range_with_len 0 board.symmetries) ≡ 0 ∷ []
+    only_none = only_first (gives_unmove board p p.own) board.symmetries y.some none_carries others_not
 
   module _ (c : Counts) (p : Sides) (u v : ℕ) where
     -- where the player to move has more stones, the move is carried by the symmetry alone that moves
     -- no point
-    pub before-in_row : IsPosition board p → own_in board Rows p ≡ true → is_ahead p ≡ true
-        → IsPosition board (taken_back p u v) → is_ahead (taken_back p u v) ≡ false
-        → rows_before board n c p u v ≡ row_index_of board n c (taken_back p u v) ∷ []
-    unfolding rows_before
+    pub before-in_row : IsPosition board p → own_in board Rows p ≡ true → is_first_half p ≡ true
+        → IsPosition board (unmove_sides p u v) → is_first_half (unmove_sides p u v) ≡ false
+        → predecessors_in_rows board n c p u v ≡ row_index_of board n c (unmove_sides p u v) ∷ []
+    unfolding predecessors_in_rows
     before-in_row h own e k f =
         let least : representative_of board p.own ≡ p.own =
-        eqb-true _ _ (subst (λ (w : Sides). eqb (representative_of board w.own) w.own ≡ true) (ahead-yes p e) own) in
-        let carrying : filter (carries board (ahead p) (ahead (taken_back p u v)).own) (range_with_len 0 board.symmetries) ≡ 0 ∷ [] =
-        ap₂ (λ (a b : Sides). filter (carries board a b.own) (range_with_len 0 board.symmetries)) (ahead-yes p e) (ahead-no (taken_back p u v) f)
+        eqb-true _ _ (subst (λ (w : Sides). eqb (representative_of board w.own) w.own ≡ true) (to_first_half-yes p e) own) in
+        let carrying : filter (gives_unmove board (to_first_half p) (to_first_half (unmove_sides p u v)).own) (range_with_len 0 board.symmetries) ≡ 0 ∷ [] =
+        ap₂ (λ (a b : Sides). filter (gives_unmove board a b.own) (range_with_len 0 board.symmetries)) (to_first_half-yes p e) (to_first_half-no (unmove_sides p u v) f)
         ∙ only_none p h.stones.own_within least in
-        ap (map (λ s. row_index_of board n c (image_sides (board.image s) (taken_back p u v)))) carrying
-        ∙ ap (λ (w : Sides). row_index_of board n c w ∷ []) (image_of_none (taken_back p u v) k.stones.own_within k.stones.other_within)
+        ap (map (λ s. row_index_of board n c (image_sides (board.image s) (unmove_sides p u v)))) carrying
+        ∙ ap (λ (w : Sides). row_index_of board n c w ∷ []) (image_of_none (unmove_sides p u v) k.stones.own_within k.stones.other_within)
 
     -- where the opponent has, by those that carry the moves of the opponent's set
-    pub before-carried : is_ahead p ≡ false → is_ahead (taken_back p u v) ≡ true
-        → rows_before board n c p u v
-        ≡ map (λ s. row_index_of board n c (image_sides (board.image s) (taken_back p u v)))
-        (filter (carries board (turned p) (taken_back p u v).own) (range_with_len 0 board.symmetries))
-    unfolding rows_before
+    pub before-carried : is_first_half p ≡ false → is_first_half (unmove_sides p u v) ≡ true
+        → predecessors_in_rows board n c p u v
+        ≡ map (λ s. row_index_of board n c (image_sides (board.image s) (unmove_sides p u v)))
+        (filter (gives_unmove board (swap_sides p) (unmove_sides p u v).own) (range_with_len 0 board.symmetries))
+    unfolding predecessors_in_rows
     before-carried e f =
-        ap (map (λ s. row_index_of board n c (image_sides (board.image s) (taken_back p u v))))
-        (ap₂ (λ (a b : Sides). filter (carries board a b.own) (range_with_len 0 board.symmetries)) (ahead-no p e) (ahead-yes (taken_back p u v) f))
+        ap (map (λ s. row_index_of board n c (image_sides (board.image s) (unmove_sides p u v))))
+        (ap₂ (λ (a b : Sides). filter (gives_unmove board a b.own) (range_with_len 0 board.symmetries)) (to_first_half-no p e) (to_first_half-yes (unmove_sides p u v) f))
 
 -- ---- the position of a node, from the entry of a position by classes
 
@@ -255,11 +255,11 @@ module _ (board : Shape) (lawful : is_board board ≡ true) (y : HasSymmetries b
     at_here : class_index_of board n c s ≡ i
     at_here = subst (λ d. class_index_of board n d s ≡ i) same at
 
-    pub ahead_here : is_ahead s ≡ true
-    ahead_here = first_ahead board n few points y c pair two s of_here (omega (arith, low, at_here, split_is))
+    pub first_half_here : is_first_half s ≡ true
+    first_half_here = first_first_half board n few points y c pair two s of_here (omega (arith, low, at_here, split_is))
 
     pub node_first : row_index_of board n c s ≡ i
-    node_first = index-ahead board n few points y c pair two s of_here ahead_here ∙ at_here
+    node_first = index-to_first_half board n few points y c pair two s of_here first_half_here ∙ at_here
 
-    pub node_second : row_index_of board n c (turned s) ≡ split + i
-    node_second = omega (arith, index-turned board n few points y c pair two s of_here ahead_here, at_here, split_is)
+    pub node_second : row_index_of board n c (swap_sides s) ≡ split + i
+    node_second = omega (arith, index-swap_sides board n few points y c pair two s of_here first_half_here, at_here, split_is)

@@ -15,12 +15,12 @@ use Rattle.morris_pairs.specs.declared.set_moves.SetMoves.{SetMoves}
 use Rattle.morris_pairs.specs.NumberedRows.{count_at}
 use Rattle.morris_pairs.specs.PairNets.{is_quiet}
 use Rattle.morris_pairs.specs.Rows.{arrivals}
-use Rattle.morris_pairs.specs.SetMoves.{IsSetKept}
+use Rattle.morris_pairs.specs.SetMoves.{IsSetTabled}
 use Rattle.morris_pairs.proofs.RowLaws.{arrivals-most, quiet_by_row}
 
 -- counts that are kept of the points below k, one point more
-module _ (f kept next : ℕ → ℕ) (k x : ℕ) (each : (v : ℕ) → next v ≡ kept v + cond (eqb v k) x 0) (none : (v : ℕ) → k ≤ v → kept v ≡ 0) where
-  pub counted_more : x ≡ f k → ((v : ℕ) → v < k → kept v ≡ f v) → (v : ℕ) → v < k + 1 → next v ≡ f v
+module _ (f tabled next : ℕ → ℕ) (k x : ℕ) (each : (v : ℕ) → next v ≡ tabled v + cond (eqb v k) x 0) (none : (v : ℕ) → k ≤ v → tabled v ≡ 0) where
+  pub counted_more : x ≡ f k → ((v : ℕ) → v < k → tabled v ≡ f v) → (v : ℕ) → v < k + 1 → next v ≡ f v
   counted_more is before v low = elim (cases_eq v k) [
     | inl e ↦ omega (arith, each v, ap (λ t. cond t x 0) (eq-eqb v k e), none v (omega (arith, e)), is, ap f e)
     | inr d ↦ omega (arith, each v, ap (λ t. cond t x 0) (ne_eqb v k d), before v (omega (arith, low, d)))
@@ -36,14 +36,14 @@ sum_alike f g (x ∷ xs) same =
     ∙ (ap₂ (λ a b. a + b) (same x (Contains-head x xs)) (sum_alike f g xs (λ y c. same y (Contains-tail x xs y c)))
     ∙ sym (sum_by-cons g x xs))
 
-module _ (b : Shape) (n : ℕ) (points : b.points ≡ n) (low : n ≤ 24) (kept : SetMoves) (is : IsSetKept b n kept) (s : Sides) (lawful : IsPosition b s)
-    (own : kept.own ≡ s.own) where
-  by_points : sum_by (count_at kept.arrivals) (members s.other) ≡ sum_by (arrivals b s.own) (members s.other)
-  by_points = sum_alike (count_at kept.arrivals) (arrivals b s.own) (members s.other) (λ v c.
+module _ (b : Shape) (n : ℕ) (points : b.points ≡ n) (low : n ≤ 24) (tabled : SetMoves) (is : IsSetTabled b n tabled) (s : Sides) (lawful : IsPosition b s)
+    (own : tabled.own ≡ s.own) where
+  by_points : sum_by (count_at tabled.arrivals) (members s.other) ≡ sum_by (arrivals b s.own) (members s.other)
+  by_points = sum_alike (count_at tabled.arrivals) (arrivals b s.own) (members s.other) (λ v c.
       let inside : v < n = point_lt s.other n v (subst (λ k. s.other < 2 ^ k) points lawful.stones.other_within) (has-member s.other v c) in
       omega (arith, is.each v inside, ap (λ o. arrivals b o v) own, arrivals-most b s.own v, (own_count s lawful.sized).1))
 
-  pub quiet_by_set : length (filter is_quiet (moves_of b s)) + sum_by (count_at kept.arrivals) (members s.other) ≡ kept.all
+  pub quiet_by_set : length (filter is_quiet (moves_of b s)) + sum_by (count_at tabled.arrivals) (members s.other) ≡ tabled.all
   quiet_by_set =
       omega (
         arith,

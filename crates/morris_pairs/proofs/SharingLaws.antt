@@ -4,13 +4,13 @@ use Rattle.std.proofs.lemmas.Bool.{cases_lt}
 use Rattle.morris_board.specs.Boards.{Shape}
 use Rattle.morris_pairs.specs.Agreement.{Agrees, IsFirstIn, IsFirstToDiffer}
 use Rattle.morris_pairs.specs.Entries.{entry_count}
-use Rattle.morris_pairs.specs.Sharing.{AreMarked, IsAsAsked}
+use Rattle.morris_pairs.specs.Chunks.{AreMarked, IsAsAsked}
 use Rattle.morris_pairs.specs.Tables.{Table}
 
-module _ {A : Type 0} (board : Shape) (n : ℕ) (t : Table) (faced : Option A) (first : ℕ) where
+module _ {A : Type 0} (board : Shape) (n : ℕ) (t : Table) (grouping : Option A) (first : ℕ) where
   -- the entries of the stretches before the first one without a mark
-  pub marked-known : (marks : List Bool) (many : ℕ) → AreMarked board n t faced first marks → ((i : ℕ) → i < many → slice_index_or marks i false ≡ true)
-      → (k : ℕ) → first * 4096 ≤ k → k < (first + many) * 4096 → k < entry_count board n t.layout t.pair → IsAsAsked board t faced k
+  pub marked-known : (marks : List Bool) (many : ℕ) → AreMarked board n t grouping first marks → ((i : ℕ) → i < many → slice_index_or marks i false ≡ true)
+      → (k : ℕ) → first * 4096 ≤ k → k < (first + many) * 4096 → k < entry_count board n t.layout t.pair → IsAsAsked board t grouping k
   marked-known marks many marked set k from low inside =
       let at : first + (k / 4096 - first) ≡ k / 4096 = omega (arith, from) in
       marked (k / 4096 - first) (set (k / 4096 - first) (omega (arith, from, low))) k (omega (arith, at)) (omega (arith, at)) inside

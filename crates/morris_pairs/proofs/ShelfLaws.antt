@@ -8,7 +8,7 @@ use Rattle.std.proofs.Math.Path.{ap₂}
 use Rattle.morris_moves.proofs.ListLaws.{all_contained, Contains-head, Contains-tail, Contains-cons_cases}
 use Rattle.morris_board.specs.Boards.{Shape}
 use Rattle.morris_board.specs.Positions.{is_between}
-use Rattle.morris_index.specs.Pairs.{Counts, counts, IsPair, needed, less_lesser, all_pairs, is_below, below_of}
+use Rattle.morris_index.specs.Pairs.{Counts, counts, IsPair, all_needs, less_lesser, all_pairs, is_below, below_of}
 use Rattle.morris_pairs.specs.FilterLaws.{filter-contains, contained-filter}
 use Rattle.morris_pairs.specs.Tables.{Table}
 use Rattle.morris_pairs.specs.Shelves.{AreTables, Stored, has_place, place_of, table_on, HasAllBelow, IsShelf, first_missing}
@@ -42,7 +42,7 @@ unfolding all_pairs
 all_lawful = refl
 
 -- a pair below another is that one itself or below one of those that it needs
-pub below-split : (c d : Counts) → Contains (below_of c) d → (d ≡ c) ⊎ ((need : Counts) × Contains (needed c) need × Contains (below_of need) d)
+pub below-split : (c d : Counts) → Contains (below_of c) d → (d ≡ c) ⊎ ((need : Counts) × Contains (all_needs c) need × Contains (below_of need) d)
 unfolding below_of
 below-split c d m = elim (cases_lt d.lesser c.lesser) [
   | inl less ↦
@@ -142,16 +142,16 @@ empty-push (o ∷ shelf) h (suc k) = empty-push shelf (λ i. h (suc i)) k
 -- ---- a table put on the shelf
 
 -- where no pair is missing, each that is needed is there
-pub needed-there : (shelf : Stored) (c : Counts) → first_missing shelf c ≡ None → (need : Counts) → Contains (needed c) need → is_some (table_on shelf need) ≡ true
-needed-there shelf c all need m = there (table_on shelf need) (find_nothing (λ p. is_none (table_on shelf p)) (needed c) need all m)
+pub needed-there : (shelf : Stored) (c : Counts) → first_missing shelf c ≡ None → (need : Counts) → Contains (all_needs c) need → is_some (table_on shelf need) ≡ true
+needed-there shelf c all need m = there (table_on shelf need) (find_nothing (λ p. is_none (table_on shelf p)) (all_needs c) need all m)
   where
     there : (o : Option Table) → is_none o ≡ false → is_some o ≡ true
     there None e = cc
     there (Some t) e = refl
 
 -- where each pair that is needed is there, none is missing
-pub none-missing : (shelf : Stored) (c : Counts) → ((need : Counts) → Contains (needed c) need → is_some (table_on shelf need) ≡ true) → first_missing shelf c ≡ None
-none-missing shelf c all = find_none (λ p. is_none (table_on shelf p)) (needed c) (λ need m. there (table_on shelf need) (all need m))
+pub none-missing : (shelf : Stored) (c : Counts) → ((need : Counts) → Contains (all_needs c) need → is_some (table_on shelf need) ≡ true) → first_missing shelf c ≡ None
+none-missing shelf c all = find_none (λ p. is_none (table_on shelf p)) (all_needs c) (λ need m. there (table_on shelf need) (all need m))
   where
     there : (o : Option Table) → is_some o ≡ true → is_none o ≡ false
     there None e = cc
@@ -190,17 +190,17 @@ pub put-lawful : (board : Shape) (shelf put : Stored) (t : Table) → IsShelf bo
     → table_on put t.pair ≡ Some t → ((c : Counts) → c ≢ t.pair → table_on put c ≡ table_on shelf c) → IsShelf board put
 put-lawful board shelf put t lawful exact all this others = record { exact = exact; closed = put-closed }
   where
-    kept : (c : Counts) → is_some (table_on shelf c) ≡ true → is_some (table_on put c) ≡ true
-    kept = still-there shelf put t this others
+    cache : (c : Counts) → is_some (table_on shelf c) ≡ true → is_some (table_on put c) ≡ true
+    cache = still-there shelf put t this others
 
     put-closed : (c : Counts) → is_some (table_on put c) ≡ true → HasAllBelow put c
     put-closed c there d below = elim (cases_pair c t.pair) [
       | inl e ↦
           elim (below-split t.pair d (subst (λ p. Contains (below_of p) d) e below)) [
             | inl itself ↦ rw (itself, this) refl
-            | inr under ↦ kept d (lawful.closed (under.0) (needed-there shelf t.pair all (under.0) (under.1)) d (under.2))
+            | inr under ↦ cache d (lawful.closed (under.0) (needed-there shelf t.pair all (under.0) (under.1)) d (under.2))
           ]
-      | inr other ↦ kept d (lawful.closed c (ap is_some (sym (others c other)) ∙ there) d below)
+      | inr other ↦ cache d (lawful.closed c (ap is_some (sym (others c other)) ∙ there) d below)
     ]
 
 -- ---- what a look-up gives

@@ -5,7 +5,7 @@ use Rattle.std.proofs.lemmas.Bool.{cases_lt}
 use Rattle.std.specs.List.{Contains, list_any}
 use Rattle.morris_board.proofs.PointsLaws.{same_test}
 use Rattle.morris_moves.proofs.ListLaws.{Contains-head, Contains-tail, Contains-cons_cases, Contains-map, Contains-map_cases, any_contained, contained_any}
-use Rattle.morris_wave.specs.Exits.{exits_of, least, greatest, depths, is_odd, is_won_code}
+use Rattle.morris_wave.specs.Exits.{exits_of, minimum, maximum, depths, is_odd, is_won_code}
 use Rattle.morris_pairs.specs.FilterLaws.{filter-contains, contained-filter}
 
 -- each element of the one list is in the other
@@ -20,7 +20,7 @@ record IsGreatest (xs : List ℕ) (m : ℕ) : Type 0 where
   here : Contains xs m
   high : (x : ℕ) → Contains xs x → x ≤ m
 
-least_is : (x : ℕ) (xs : List ℕ) → (m : ℕ) × (least (x ∷ xs) ≡ Some m) × IsLeast (x ∷ xs) m
+least_is : (x : ℕ) (xs : List ℕ) → (m : ℕ) × (minimum (x ∷ xs) ≡ Some m) × IsLeast (x ∷ xs) m
 least_is x [] = (
   x,
   refl,
@@ -42,7 +42,7 @@ least_is x (y ∷ ys) =
       },
     )
 
-greatest_is : (x : ℕ) (xs : List ℕ) → (m : ℕ) × (greatest (x ∷ xs) ≡ Some m) × IsGreatest (x ∷ xs) m
+greatest_is : (x : ℕ) (xs : List ℕ) → (m : ℕ) × (maximum (x ∷ xs) ≡ Some m) × IsGreatest (x ∷ xs) m
 greatest_is x [] = (
   x,
   refl,
@@ -64,7 +64,7 @@ greatest_is x (y ∷ ys) =
       },
     )
 
-least_same : (xs ys : List ℕ) → IsAmong xs ys → IsAmong ys xs → least xs ≡ least ys
+least_same : (xs ys : List ℕ) → IsAmong xs ys → IsAmong ys xs → minimum xs ≡ minimum ys
 least_same [] [] f g = refl
 least_same [] (y ∷ ys) f g = absurd (omega (arith, g y (Contains-head y ys)))
 least_same (x ∷ xs) [] f g = absurd (omega (arith, f x (Contains-head x xs)))
@@ -74,7 +74,7 @@ least_same (x ∷ xs) (y ∷ ys) f g =
     let e : a.0 ≡ b.0 = omega (arith, a.2.low b.0 (g b.0 b.2.here), b.2.low a.0 (f a.0 a.2.here)) in
     a.1 ∙ (ap (λ m. Some m) e ∙ sym b.1)
 
-greatest_same : (xs ys : List ℕ) → IsAmong xs ys → IsAmong ys xs → greatest xs ≡ greatest ys
+greatest_same : (xs ys : List ℕ) → IsAmong xs ys → IsAmong ys xs → maximum xs ≡ maximum ys
 greatest_same [] [] f g = refl
 greatest_same [] (y ∷ ys) f g = absurd (omega (arith, g y (Contains-head y ys)))
 greatest_same (x ∷ xs) [] f g = absurd (omega (arith, f x (Contains-head x xs)))
@@ -99,7 +99,7 @@ any_among p xs ys f h = let at = any_contained p xs h in contained_any p ys at.0
 
 pub exits_of-same : (xs ys : List ℕ) → IsAmong xs ys → IsAmong ys xs → exits_of xs ≡ exits_of ys
 exits_of-same xs ys f g =
-    let lost : least (depths is_odd xs) ≡ least (depths is_odd ys) = least_same _ _ (depths_among is_odd xs ys f) (depths_among is_odd ys xs g) in
-    let won : greatest (depths is_won_code xs) ≡ greatest (depths is_won_code ys) = greatest_same _ _ (depths_among is_won_code xs ys f) (depths_among is_won_code ys xs g) in
+    let lost : minimum (depths is_odd xs) ≡ minimum (depths is_odd ys) = least_same _ _ (depths_among is_odd xs ys f) (depths_among is_odd ys xs g) in
+    let won : maximum (depths is_won_code xs) ≡ maximum (depths is_won_code ys) = greatest_same _ _ (depths_among is_won_code xs ys f) (depths_among is_won_code ys xs g) in
     let drawn : list_any (λ c. eqb c 0) xs ≡ list_any (λ c. eqb c 0) ys = same_test _ _ (any_among (λ c. eqb c 0) xs ys f) (any_among (λ c. eqb c 0) ys xs g) in
     rw (lost, won, drawn) refl

@@ -5,7 +5,7 @@ use Rattle.std.proofs.lemmas.Bool.{cases_Bool, cases_eq, cases_lt, cond-true, co
 use Rattle.morris_board.specs.Boards.{Shape}
 use Rattle.morris_index.specs.Pairs.{Counts}
 use Rattle.morris_pairs.specs.Tables.{Table, IsTable}
-use Rattle.morris_pairs.specs.Shelves.{AreTables, Stored, has_place, kept_from, place_of, table_on}
+use Rattle.morris_pairs.specs.Shelves.{AreTables, Stored, has_place, retained_from, place_of, table_on}
 use Rattle.morris_pairs.proofs.ShelfLaws.{HasNumbers, numbers, cases_pair, table_at, table_nowhere, empty-nothing, place_of-lt, put-this, put-other}
 
 module _ (stored : Stored) (empty : (k : ℕ) → get_or stored k None ≡ None) where
@@ -100,7 +100,7 @@ module _ (stones : ℕ) (old now : Stored) (place : ℕ) (so_far : (c : Counts) 
 
 -- once all places were passed
 pub let_go-last : (stones : ℕ) (old new : Stored) → ((c : Counts) → has_place c ≡ true → table_on new c ≡ left_at stones old 49 c)
-    → (c : Counts) → table_on new c ≡ kept_from stones old c
+    → (c : Counts) → table_on new c ≡ retained_from stones old c
 let_go-last stones old new all c = elim (cases_Bool (has_place c)) [
   | inl h ↦ all c h ∙ elim (cases_lt (c.greater + c.lesser) stones) [
     | inl fewer ↦

@@ -8,17 +8,17 @@ use Rattle.morris_board.specs.Symmetries.{HasSymmetries}
 use Rattle.morris_moves.specs.Rules.{moves_of}
 use Rattle.morris_index.specs.Classes.{representative_of}
 use Rattle.morris_index.specs.ClassPairs.{class_half_size, class_size_of, class_index_of}
-use Rattle.morris_index.specs.Facing.{turned}
+use Rattle.morris_index.specs.ByOpponent.{swap_sides}
 use Rattle.morris_index.specs.Pairs.{Counts, IsPair, is_of}
 use Rattle.morris_index.proofs.ClassPairLaws.{first_fits}
 use Rattle.morris_index.proofs.FacingLaws.{turned_of, turned_position}
 use Rattle.morris_wave.specs.Exits.{exits_of}
 use Rattle.morris_pairs.specs.NetLaws.{points_few}
-use Rattle.morris_pairs.specs.Orders.{Classes, Rows, is_ahead, row_index_of, own_in}
+use Rattle.morris_pairs.specs.Orders.{Classes, Rows, is_first_half, row_index_of, own_in}
 use Rattle.morris_pairs.specs.PairNets.{is_quiet, capture_codes, level_in, net_at}
 use Rattle.morris_pairs.proofs.GraphLaws.{quiet_count_at, exits_same}
 use Rattle.morris_pairs.proofs.PositionLaws.{position_of_node}
-use Rattle.morris_pairs.proofs.RowNodeLaws.{first_ahead, greater_ahead, index-ahead, index-turned, own-ahead, own-turned}
+use Rattle.morris_pairs.proofs.RowNodeLaws.{first_first_half, greater_first_half, index-to_first_half, index-swap_sides, own-to_first_half, own-swap_sides}
 
 -- ---- a node of the first half is the entry with its number
 
@@ -35,9 +35,9 @@ module _ (board : Shape) (lawful : is_board board ≡ true) (y : HasSymmetries b
       let at = position_of_node board few y Classes c pair i inside in
       let s : Sides = at.0 in
       let w = at.1 in
-      let ahead : is_ahead s ≡ true = first_ahead board board.points few refl y c pair two s w.of (omega (arith, low, w.entry)) in
-      let own : own_in board Rows s ≡ true = own-ahead board board.points few refl y c pair two s w.of ahead (eqb-true _ _ w.own) in
-      let node : row_index_of board board.points c s ≡ i = index-ahead board board.points few refl y c pair two s w.of ahead ∙ w.entry in (
+      let to_first_half : is_first_half s ≡ true = first_first_half board board.points few refl y c pair two s w.of (omega (arith, low, w.entry)) in
+      let own : own_in board Rows s ≡ true = own-to_first_half board board.points few refl y c pair two s w.of to_first_half (eqb-true _ _ w.own) in
+      let node : row_index_of board board.points c s ≡ i = index-to_first_half board board.points few refl y c pair two s w.of to_first_half ∙ w.entry in (
         sym (quiet_count_at board lawful y board.points refl Classes c pair s w.position w.of w.own i w.entry)
             ∙ quiet_count_at board lawful y board.points refl Rows c pair s w.position w.of own i node,
         sym (exits_same board lawful y board.points refl Classes c pair s w.position w.of w.own i w.entry)
@@ -55,21 +55,21 @@ module _ (board : Shape) (lawful : is_board board ≡ true) (y : HasSymmetries b
   pair_here : IsPair board.points c
   pair_here = subst (λ m. IsPair m c) (sym points) pair
 
-  ahead : is_ahead s ≡ true
-  ahead = greater_ahead board n few points y c pair two s of greater
+  to_first_half : is_first_half s ≡ true
+  to_first_half = greater_first_half board n few points y c pair two s of greater
 
-  there : IsPosition board (turned s)
+  there : IsPosition board (swap_sides s)
   there = turned_position board n few points y c pair s h of
 
-  node : row_index_of board n c (turned s) ≡ class_half_size board n c.greater c.lesser + i
-  node = omega (arith, index-turned board n few points y c pair two s of ahead, entry)
+  node : row_index_of board n c (swap_sides s) ≡ class_half_size board n c.greater c.lesser + i
+  node = omega (arith, index-swap_sides board n few points y c pair two s of to_first_half, entry)
 
-  own : own_in board Rows (turned s) ≡ true
-  own = own-turned board n few points y c pair two s of ahead least
+  own : own_in board Rows (swap_sides s) ≡ true
+  own = own-swap_sides board n few points y c pair two s of to_first_half least
 
-  pub turned_quiet : length (filter is_quiet (moves_of board (turned s)))
+  pub swapped_quiet : length (filter is_quiet (moves_of board (swap_sides s)))
       ≡ length ((net_at board (level_in Rows c)).quiet (class_half_size board n c.greater c.lesser + i))
-  turned_quiet = quiet_count_at board lawful y n points Rows c pair_here (turned s) there (turned_of c s of) own (class_half_size board n c.greater c.lesser + i) node
+  swapped_quiet = quiet_count_at board lawful y n points Rows c pair_here (swap_sides s) there (turned_of c s of) own (class_half_size board n c.greater c.lesser + i) node
 
-  pub turned_exits : exits_of (capture_codes board (turned s)) ≡ exits_of ((net_at board (level_in Rows c)).exits (class_half_size board n c.greater c.lesser + i))
-  turned_exits = exits_same board lawful y n points Rows c pair_here (turned s) there (turned_of c s of) own (class_half_size board n c.greater c.lesser + i) node
+  pub swapped_exits : exits_of (capture_codes board (swap_sides s)) ≡ exits_of ((net_at board (level_in Rows c)).exits (class_half_size board n c.greater c.lesser + i))
+  swapped_exits = exits_same board lawful y n points Rows c pair_here (swap_sides s) there (turned_of c s of) own (class_half_size board n c.greater c.lesser + i) node

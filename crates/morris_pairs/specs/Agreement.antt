@@ -2,16 +2,16 @@
 use Rattle.std.specs.Prelude.{◌≡◌, ℕ, ◌+◌, ◌<◌, ◌≤◌, List, [], ◌∷◌, map, filter, Some, None, slice_index, if◌then◌else◌, true}
 use Rattle.morris_board.specs.Boards.{Shape}
 use Rattle.morris_board.specs.Positions.{Sides, IsPosition}
-use Rattle.morris_moves.specs.declared.step.Move.{Move}
+use Rattle.morris_moves.specs.declared.game_move.Move.{Move}
 use Rattle.morris_moves.specs.Rules.{moves_of, result_of}
 use Rattle.morris_index.specs.Pairs.{is_of}
-use Rattle.morris_wave.specs.declared.network.Exits.{Exits}
+use Rattle.morris_wave.specs.declared.graph.Exits.{Exits}
 use Rattle.morris_wave.specs.Exits.{exits_of}
 use Rattle.morris_pairs.specs.Codes.{code_to}
 use Rattle.morris_pairs.specs.Entries.{entry_count, entry_index, has_own_entry}
 use Rattle.morris_pairs.specs.PairNets.{is_quiet}
 use Rattle.morris_pairs.specs.Tables.{Table}
-use Rattle.morris_wave.specs.Summaries.{added}
+use Rattle.morris_wave.specs.Summaries.{add_code}
 
 -- The code of a position by what its results come to. Where a result is lost for the opponent, the
 -- player to move wins, one ply after the one that is lost soonest. Else, where every result is won
@@ -40,9 +40,9 @@ unfoldable pub quiet_codes : Shape → Table → Sides → List Move → List �
 quiet_codes board t s moves = map (λ m. slice_index t.codes (entry_index board board.points t.layout t.pair (result_of s m))) (filter is_quiet moves)
 
 -- a summary with more results, of these codes
-unfoldable pub all_added : Exits → List ℕ → Exits
-all_added exits [] = exits
-all_added exits (code ∷ codes) = all_added (added exits code) codes
+unfoldable pub add_all : Exits → List ℕ → Exits
+add_all exits [] = exits
+add_all exits (code ∷ codes) = add_all (add_code exits code) codes
 
 -- entry i is the code that the rules give the position that has it for its own, from the codes of
 -- its results

@@ -40,6 +40,6 @@ IsUnswept board shelf c TooDeep = (first_missing shelf c ≡ None) × IsPastCode
 -- ---- faults
 
 -- what a refusal of the sweep is here
-abbrev pub swept : {B : Type 0} → SweepFault → BuildFault B
-swept sweep.TooDeep = TooDeep
-swept sweep.Memory = Memory
+abbrev pub build_fault_of : {B : Type 0} → SweepFault → BuildFault B
+build_fault_of sweep.TooDeep = TooDeep
+build_fault_of sweep.Memory = Memory

@@ -4,10 +4,10 @@ use Rattle.std.specs.List.{flat_map}
 use Rattle.morris_board.specs.Boards.{Shape}
 use Rattle.morris_board.specs.Sets.{has, members, count_of, without_point}
 use Rattle.morris_board.specs.Positions.{Sides}
-use Rattle.morris_moves.specs.declared.step.Move.{Move}
-use Rattle.morris_moves.specs.Rules.{takable, closes, reach, move}
-use Rattle.morris_index.specs.Pairs.{Counts, ordered}
-use Rattle.morris_index.specs.Standings.{IsStanding, IsLedStanding}
+use Rattle.morris_moves.specs.declared.game_move.Move.{Move}
+use Rattle.morris_moves.specs.Rules.{takable_stones, closes, reach, move}
+use Rattle.morris_index.specs.Pairs.{Counts, sort_counts}
+use Rattle.morris_index.specs.Standings.{IsStanding, IsCanonicalStanding}
 use Rattle.morris_index.specs.declared.standing.Standing.{Standing}
 use Rattle.morris_pairs.specs.declared.layout.Layout.{Layout}
 use Rattle.morris_pairs.specs.declared.layout.Layout.TheVariants.{Full, Classes}
@@ -16,17 +16,17 @@ use Rattle.morris_pairs.specs.Tables.{Table}
 -- what is kept of the stones of the player to move, on n points, in a layout
 abbrev pub IsStandingIn : Shape → ℕ → Layout → Counts → ℕ → Standing → Type 0
 IsStandingIn board n Full c other standing = IsStanding n c other standing
-IsStandingIn board n Classes c other standing = IsLedStanding board n c other standing
+IsStandingIn board n Classes c other standing = IsCanonicalStanding board n c other standing
 
 -- After a capture the other player is to move, has one stone less, and faces as many stones as
 -- moved: the pair of all results.
 abbrev pub captured_pair : Sides → Counts
-captured_pair s = ordered (count_of s.other - 1) (count_of s.own)
+captured_pair s = sort_counts (count_of s.other - 1) (count_of s.own)
 
 -- What is kept of a stone of the opponent that may be taken: where the results stand in their
 -- table, in which the player to move has the other stones.
 pub record IsLeft (board : Shape) (n : ℕ) (s : Sides) (t : Table) (taken : ℕ) (standing : Standing) : Type 0 where
-  pub takes : has (takable board s.other) taken ≡ true
+  pub takes : has (takable_stones board s.other) taken ≡ true
   pub own : standing.own ≡ without_point s.other taken
   pub stands : IsStandingIn board n t.layout t.pair (count_of s.own) standing
 

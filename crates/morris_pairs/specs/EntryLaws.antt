@@ -10,20 +10,20 @@ use Rattle.morris_board.proofs.ImageLaws.{IsOneToOne, one_to_one, IsPosition-ima
 use Rattle.morris_moves.specs.Images.{IsImage, HaveOneValue}
 use Rattle.morris_moves.proofs.SymmetryLaws.{IsImage-value}
 use Rattle.morris_index.specs.Binomials.{choose}
-use Rattle.morris_index.specs.Facing.{turned}
+use Rattle.morris_index.specs.ByOpponent.{swap_sides}
 use Rattle.morris_index.specs.Numbering.{rank_of, number_outside, half_size}
 use Rattle.morris_index.specs.Pairs.{Counts, IsPair, IsHalf, is_of, size_of}
 use Rattle.morris_index.specs.Classes.{symmetry_of, representative_of, class_of}
-use Rattle.morris_index.specs.ClassPairs.{led, class_half_size, class_half_index, class_size_of, class_index_of}
+use Rattle.morris_index.specs.ClassPairs.{canonical_form, class_half_size, class_half_index, class_size_of, class_index_of}
 use Rattle.morris_board.proofs.PositionLaws.{from_between}
 use Rattle.morris_index.proofs.IndexLaws.{IsPlaced, placed, halves_of, index-same, index-lt, size-one, size-two, half_size-few}
 use Rattle.morris_index.proofs.ClassLaws.{symmetry_within, image_none, representative_symmetry, representative_twice, class_of-representative}
-use Rattle.morris_index.proofs.ClassPairLaws.{led_position, led_own, led_own_count, led_other_count, led_itself, led_alone, led_same, class_below, class_size-few}
+use Rattle.morris_index.proofs.ClassPairLaws.{canonical_position, canonical_own, canonical_own_count, canonical_other_count, canonical_itself, canonical_alone, canonical_same, class_below, class_size-few}
 use Rattle.morris_index.proofs.ClassPairLaws.{index-lt as class_index-lt, class_index-lt as half_index-lt, size-one as class_size-one, size-two as class_size-two}
 use Rattle.morris_index.proofs.ClassCounts.{class_count-few}
 use Rattle.morris_index.proofs.FacingLaws.{turned_position}
 use Rattle.morris_pairs.specs.declared.layout.Layout.{Layout}
-use Rattle.morris_pairs.specs.Orders.{Order, Full, Classes, Rows, order_of, is_ahead, ahead, row_size_of, row_index_of, count_in, index_in, own_in}
+use Rattle.morris_pairs.specs.Orders.{Order, Full, Classes, Rows, order_of, is_first_half, to_first_half, row_size_of, row_index_of, count_in, index_in, own_in}
 
 -- The position t stands for the position s: it is s or an image of it, has the number of s for its
 -- own, and the value of s.
@@ -75,27 +75,27 @@ position_of board c s pair h of = record {
 
 -- the image of a position under the symmetry of the set that leads it: the own one, once the
 -- position is turned
-abbrev pub led_by : Shape → (Sides → Sides) → Sides → Sides
-led_by board turn s = image_sides (board.image (symmetry_of board (turn s).own)) s
+abbrev pub canonical_by : Shape → (Sides → Sides) → Sides → Sides
+canonical_by board turn s = image_sides (board.image (symmetry_of board (turn s).own)) s
 
 -- An order in which positions are led: the image of a set that leads a position leads the image of
 -- the position; the number is the own one of positions in which this set is a representative; and
 -- just the positions that are led to one have one number, that of this one.
-pub record IsLedBy (board : Shape) (o : Order) (c : Counts) (turn : Sides → Sides) : Type 0 where
+pub record IsCanonicalBy (board : Shape) (o : Order) (c : Counts) (turn : Sides → Sides) : Type 0 where
   pub within : (s : Sides) → IsPosition board s → (turn s).own < 2 ^ board.points
   pub image : (k : ℕ) → k < board.symmetries → (s : Sides) → IsPosition board s
       → (turn (image_sides (board.image k) s)).own ≡ image_of (board.image k) (turn s).own
   pub own : (s : Sides) → own_in board o s ≡ eqb (representative_of board (turn s).own) (turn s).own
   pub below : (s : Sides) → IsPosition board s → is_of c s ≡ true → index_in board board.points o c s < count_in board board.points o c
   pub alone : (s t : Sides) → IsPosition board s → IsPosition board t → is_of c s ≡ true → is_of c t ≡ true
-      → index_in board board.points o c s ≡ index_in board board.points o c t → led_by board turn s ≡ led_by board turn t
+      → index_in board board.points o c s ≡ index_in board board.points o c t → canonical_by board turn s ≡ canonical_by board turn t
   pub there : (s : Sides) → IsPosition board s → is_of c s ≡ true
-      → index_in board board.points o c (led_by board turn s) ≡ index_in board board.points o c s
+      → index_in board board.points o c (canonical_by board turn s) ≡ index_in board board.points o c s
 
-module _ (board : Shape) (few : board.points ≤ 24) (y : HasSymmetries board) (o : Order) (c : Counts) (turn : Sides → Sides) (laws : IsLedBy board o c turn) where
+module _ (board : Shape) (few : board.points ≤ 24) (y : HasSymmetries board) (o : Order) (c : Counts) (turn : Sides → Sides) (laws : IsCanonicalBy board o c turn) where
   -- a position whose number is its own is led to itself
-  pub led_none : (s : Sides) → IsPosition board s → own_in board o s ≡ true → led_by board turn s ≡ s
-  led_none s h own =
+  pub canonical_none : (s : Sides) → IsPosition board s → own_in board o s ≡ true → canonical_by board turn s ≡ s
+  canonical_none s h own =
       let least : representative_of board (turn s).own ≡ (turn s).own = eqb-true _ _ (sym (laws.own s) ∙ own) in
       let none : symmetry_of board (turn s).own ≡ 0 =
       ap (symmetry_of board) (sym least) ∙ representative_symmetry board few y (turn s).own (laws.within s h) in
@@ -109,25 +109,25 @@ module _ (board : Shape) (few : board.points ≤ 24) (y : HasSymmetries board) (
     one : IsOneToOne board.points (board.image (symmetry_of board (turn s).own)) (board.image (inverse_of (symmetry_of board (turn s).own)))
     one = one_to_one board _ _ (y.symmetry (symmetry_of board (turn s).own) leads)
 
-    there : IsPosition board (led_by board turn s)
+    there : IsPosition board (canonical_by board turn s)
     there = IsPosition-image board few _ _ one s h
 
-    set_there : (turn (led_by board turn s)).own ≡ representative_of board (turn s).own
+    set_there : (turn (canonical_by board turn s)).own ≡ representative_of board (turn s).own
     unfolding representative_of
     set_there = laws.image (symmetry_of board (turn s).own) leads s h
 
-    own_there : own_in board o (led_by board turn s) ≡ true
+    own_there : own_in board o (canonical_by board turn s) ≡ true
     own_there =
-        laws.own (led_by board turn s)
+        laws.own (canonical_by board turn s)
         ∙ eq-eqb _ _ (ap (representative_of board) set_there ∙ representative_twice board few y (turn s).own (laws.within s h) ∙ sym set_there)
 
-    of_there : is_of c s ≡ true → is_of c (led_by board turn s) ≡ true
+    of_there : is_of c s ≡ true → is_of c (canonical_by board turn s) ≡ true
     of_there of = rw (
       count_of-image board.points few _ _ one s.own h.stones.own_within,
       count_of-image board.points few _ _ one s.other h.stones.other_within,
     ) of
 
-    image_there : IsImage board s (led_by board turn s)
+    image_there : IsImage board s (canonical_by board turn s)
     image_there = record {
       map = board.image (symmetry_of board (turn s).own);
       back = board.image (inverse_of (symmetry_of board (turn s).own));
@@ -135,22 +135,22 @@ module _ (board : Shape) (few : board.points ≤ 24) (y : HasSymmetries board) (
       image = refl;
     }
 
-  pub laid-led : IsPair board.points c → IsLaid board o c
-  laid-led pair = record {
+  pub laid-canonical_form : IsPair board.points c → IsLaid board o c
+  laid-canonical_form pair = record {
     below = laws.below;
     alone = λ s t h k s_of t_of s_own t_own same.
         let here = position_of board c s pair h s_of in
         let also = position_of board c t pair k t_of in
-        sym (led_none s here s_own) ∙ laws.alone s t here also s_of t_of same ∙ led_none t also t_own;
+        sym (canonical_none s here s_own) ∙ laws.alone s t here also s_of t_of same ∙ canonical_none t also t_own;
     stands = λ s h of. (
-      led_by board turn s,
+      canonical_by board turn s,
       record {
         position = there s h;
         of = of_there s h of;
         own = own_there s h;
         entry = laws.there s h of;
         image = inr (image_there s h);
-        one_value = IsImage-value board few s (led_by board turn s) h (image_there s h);
+        one_value = IsImage-value board few s (canonical_by board turn s) h (image_there s h);
       },
     );
   }
@@ -159,31 +159,31 @@ module _ (board : Shape) (few : board.points ≤ 24) (y : HasSymmetries board) (
 
 module _ (board : Shape) (few : board.points ≤ 24) (y : HasSymmetries board) where
   module _ (s : Sides) (h : IsPosition board s) where
-    led_twice : led board (led board s) ≡ led board s
-    led_twice =
-        let p = led_position board board.points few refl y s h in
-        led_itself board board.points few refl y (led board s).own (led board s).other p.stones.own_within p.stones.other_within
-        (ap (representative_of board) (led_own board board.points few refl y s h)
+    canonical_twice : canonical_form board (canonical_form board s) ≡ canonical_form board s
+    canonical_twice =
+        let p = canonical_position board board.points few refl y s h in
+        canonical_itself board board.points few refl y (canonical_form board s).own (canonical_form board s).other p.stones.own_within p.stones.other_within
+        (ap (representative_of board) (canonical_own board board.points few refl y s h)
         ∙ representative_twice board few y s.own h.stones.own_within
-        ∙ sym (led_own board board.points few refl y s h))
+        ∙ sym (canonical_own board board.points few refl y s h))
 
-    own_count : count_of (led board s).own ≡ count_of s.own
-    own_count = led_own_count board board.points few refl y s h
+    own_count : count_of (canonical_form board s).own ≡ count_of s.own
+    own_count = canonical_own_count board board.points few refl y s h
 
-    other_count : count_of (led board s).other ≡ count_of s.other
-    other_count = led_other_count board board.points few refl y s h
+    other_count : count_of (canonical_form board s).other ≡ count_of s.other
+    other_count = canonical_other_count board board.points few refl y s h
 
-    class_there : class_of board (led board s).own ≡ class_of board s.own
-    class_there = ap (class_of board) (led_own board board.points few refl y s h) ∙ class_of-representative board few y s.own h.stones.own_within
+    class_there : class_of board (canonical_form board s).own ≡ class_of board s.own
+    class_there = ap (class_of board) (canonical_own board board.points few refl y s h) ∙ class_of-representative board few y s.own h.stones.own_within
 
-    half_there : class_half_index board board.points (led board s) ≡ class_half_index board board.points s
+    half_there : class_half_index board board.points (canonical_form board s) ≡ class_half_index board board.points s
     unfolding class_half_index
     half_there =
         ap₂ (λ x r. x + r)
         (ap₂ (λ x r. x * r) class_there (ap₂ (λ a b. choose (board.points - a) b) own_count other_count))
-        (ap (λ (t : Sides). rank_of (map (number_outside t.own) (members t.other))) led_twice)
+        (ap (λ (t : Sides). rank_of (map (number_outside t.own) (members t.other))) canonical_twice)
 
-    index_there : (c : Counts) → class_index_of board board.points c (led board s) ≡ class_index_of board board.points c s
+    index_there : (c : Counts) → class_index_of board board.points c (canonical_form board s) ≡ class_index_of board board.points c s
     unfolding class_index_of
     index_there c = rw (own_count, half_there) refl
 
@@ -194,30 +194,30 @@ module _ (board : Shape) (few : board.points ≤ 24) (y : HasSymmetries board) w
         (subst (λ k. class_half_index board board.points s < class_half_size board board.points (count_of s.own) k) other
         (half_index-lt board board.points few refl y s h (class_below board board.points few refl y s h)))
 
-  pub led-classes : (c : Counts) → IsLedBy board Classes c (λ s. s)
-  unfolding led
-  led-classes c = record {
+  pub canonical_form-classes : (c : Counts) → IsCanonicalBy board Classes c (λ s. s)
+  unfolding canonical_form
+  canonical_form-classes c = record {
     within = λ s h. h.stones.own_within;
     image = λ k low s h. refl;
     own = λ s. refl;
     below = class_index-lt board board.points few refl y c;
-    alone = λ s t h k s_of t_of same. led_alone board board.points few refl y c s t h k s_of t_of same;
+    alone = λ s t h k s_of t_of same. canonical_alone board board.points few refl y c s t h k s_of t_of same;
     there = λ s h of. index_there s h c;
   }
 
 -- ---- by the side with more stones
 
-pub ahead-yes : (s : Sides) → is_ahead s ≡ true → ahead s ≡ s
-ahead-yes s e = ap (λ b. cond {A = Sides} b s (turned s)) e
+pub to_first_half-yes : (s : Sides) → is_first_half s ≡ true → to_first_half s ≡ s
+to_first_half-yes s e = ap (λ b. cond {A = Sides} b s (swap_sides s)) e
 
-pub ahead-no : (s : Sides) → is_ahead s ≡ false → ahead s ≡ turned s
-ahead-no s e = ap (λ b. cond {A = Sides} b s (turned s)) e
+pub to_first_half-no : (s : Sides) → is_first_half s ≡ false → to_first_half s ≡ swap_sides s
+to_first_half-no s e = ap (λ b. cond {A = Sides} b s (swap_sides s)) e
 
 -- in which half of a pair a position is
-pub ahead_cases : (n : ℕ) (c : Counts) → IsPair n c → (s : Sides) → is_of c s ≡ true
-    → ((is_ahead s ≡ true) × (count_of s.own ≡ c.greater) × (count_of s.other ≡ c.lesser))
-    ⊎ ((is_ahead s ≡ false) × (c.greater ≢ c.lesser) × (count_of s.own ≡ c.lesser) × (count_of s.other ≡ c.greater))
-ahead_cases n c pair s of = elim (halves_of c s of) [
+pub first_half_cases : (n : ℕ) (c : Counts) → IsPair n c → (s : Sides) → is_of c s ≡ true
+    → ((is_first_half s ≡ true) × (count_of s.own ≡ c.greater) × (count_of s.other ≡ c.lesser))
+    ⊎ ((is_first_half s ≡ false) × (c.greater ≢ c.lesser) × (count_of s.own ≡ c.lesser) × (count_of s.other ≡ c.greater))
+first_half_cases n c pair s of = elim (halves_of c s of) [
   | inl a ↦ inl (le-leb (count_of s.other) (count_of s.own) (omega (arith, a.0, a.1, pair.ordered)), a.0, a.1)
   | inr b ↦ inr (lt-leb (count_of s.other) (count_of s.own) (omega (arith, b.0, b.1, b.2, pair.ordered)), b.0, b.1, b.2)
 ]
@@ -234,97 +234,97 @@ module _ (board : Shape) (n : ℕ) (c : Counts) where
   unfolding row_size_of
   row_size-two d = rw (ne_eqb c.greater c.lesser d) refl
 
-  pub row_index-ahead : (s : Sides) → is_ahead s ≡ true → row_index_of board n c s ≡ class_half_index board n s
+  pub row_index-to_first_half : (s : Sides) → is_first_half s ≡ true → row_index_of board n c s ≡ class_half_index board n s
   unfolding row_index_of
-  row_index-ahead s e = rw e (omega arith)
+  row_index-to_first_half s e = rw e (omega arith)
 
-  pub row_index-behind : (s : Sides) → is_ahead s ≡ false → row_index_of board n c s ≡ half + class_half_index board n (turned s)
+  pub row_index-second_half : (s : Sides) → is_first_half s ≡ false → row_index_of board n c s ≡ half + class_half_index board n (swap_sides s)
   unfolding row_index_of
-  row_index-behind s e = rw e refl
+  row_index-second_half s e = rw e refl
 
 module _ (board : Shape) (few : board.points ≤ 24) (y : HasSymmetries board) where
-  pub ahead_within : (s : Sides) → IsPosition board s → (ahead s).own < 2 ^ board.points
-  ahead_within s h = elim (cases_Bool (is_ahead s)) [
-    | inl e ↦ subst (λ (u : Sides). u.own < 2 ^ board.points) (sym (ahead-yes s e)) h.stones.own_within
-    | inr e ↦ subst (λ (u : Sides). u.own < 2 ^ board.points) (sym (ahead-no s e)) h.stones.other_within
+  pub first_half_within : (s : Sides) → IsPosition board s → (to_first_half s).own < 2 ^ board.points
+  first_half_within s h = elim (cases_Bool (is_first_half s)) [
+    | inl e ↦ subst (λ (u : Sides). u.own < 2 ^ board.points) (sym (to_first_half-yes s e)) h.stones.own_within
+    | inr e ↦ subst (λ (u : Sides). u.own < 2 ^ board.points) (sym (to_first_half-no s e)) h.stones.other_within
   ]
 
   module _ (k : ℕ) (low : k < board.symmetries) (s : Sides) (h : IsPosition board s) where
-    pub is_ahead-image : is_ahead (image_sides (board.image k) s) ≡ is_ahead s
-    is_ahead-image =
+    pub is_first_half-image : is_first_half (image_sides (board.image k) s) ≡ is_first_half s
+    is_first_half-image =
         let one = one_to_one board _ _ (y.symmetry k low) in
         ap₂ (λ a b. leb a b) (count_of-image board.points few _ _ one s.other h.stones.other_within)
         (count_of-image board.points few _ _ one s.own h.stones.own_within)
 
-    pub ahead-image : ahead (image_sides (board.image k) s) ≡ image_sides (board.image k) (ahead s)
-    ahead-image = elim (cases_Bool (is_ahead s)) [
-      | inl e ↦ ahead-yes (image_sides (board.image k) s) (is_ahead-image ∙ e) ∙ sym (ap (image_sides (board.image k)) (ahead-yes s e))
-      | inr e ↦ ahead-no (image_sides (board.image k) s) (is_ahead-image ∙ e) ∙ sym (ap (image_sides (board.image k)) (ahead-no s e))
+    pub to_first_half-image : to_first_half (image_sides (board.image k) s) ≡ image_sides (board.image k) (to_first_half s)
+    to_first_half-image = elim (cases_Bool (is_first_half s)) [
+      | inl e ↦ to_first_half-yes (image_sides (board.image k) s) (is_first_half-image ∙ e) ∙ sym (ap (image_sides (board.image k)) (to_first_half-yes s e))
+      | inr e ↦ to_first_half-no (image_sides (board.image k) s) (is_first_half-image ∙ e) ∙ sym (ap (image_sides (board.image k)) (to_first_half-no s e))
     ]
 
   module _ (c : Counts) (pair : IsPair board.points c) where
-    turned_here : (s : Sides) → IsPosition board s → is_of c s ≡ true → IsPosition board (turned s)
-    turned_here = turned_position board board.points few refl y c pair
+    swapped_here : (s : Sides) → IsPosition board s → is_of c s ≡ true → IsPosition board (swap_sides s)
+    swapped_here = turned_position board board.points few refl y c pair
 
     row_index-lt : (s : Sides) → IsPosition board s → is_of c s ≡ true → row_index_of board board.points c s < row_size_of board board.points c
-    row_index-lt s h of = elim (ahead_cases board.points c pair s of) [
+    row_index-lt s h of = elim (first_half_cases board.points c pair s of) [
       | inl a ↦
           let low = half_lt board few y s h c.greater c.lesser a.1 a.2 in
           elim (cases_eq c.greater c.lesser) [
-            | inl e ↦ omega (arith, low, row_index-ahead board board.points c s a.0, row_size-one board board.points c e)
-            | inr d ↦ omega (arith, low, row_index-ahead board board.points c s a.0, row_size-two board board.points c d)
+            | inl e ↦ omega (arith, low, row_index-to_first_half board board.points c s a.0, row_size-one board board.points c e)
+            | inr d ↦ omega (arith, low, row_index-to_first_half board board.points c s a.0, row_size-two board board.points c d)
           ]
       | inr b ↦
-          omega (arith, half_lt board few y (turned s) (turned_here s h of) c.greater c.lesser b.3 b.2, row_index-behind board board.points c s b.0, row_size-two board board.points c b.1)
+          omega (arith, half_lt board few y (swap_sides s) (swapped_here s h of) c.greater c.lesser b.3 b.2, row_index-second_half board board.points c s b.0, row_size-two board board.points c b.1)
     ]
 
-    led-ahead : (s : Sides) → is_ahead s ≡ true → led_by board ahead s ≡ led board s
-    unfolding led
-    led-ahead s e = ap (λ (u : Sides). image_sides (board.image (symmetry_of board u.own)) s) (ahead-yes s e)
+    canonical_form-to_first_half : (s : Sides) → is_first_half s ≡ true → canonical_by board to_first_half s ≡ canonical_form board s
+    unfolding canonical_form
+    canonical_form-to_first_half s e = ap (λ (u : Sides). image_sides (board.image (symmetry_of board u.own)) s) (to_first_half-yes s e)
 
-    led-behind : (s : Sides) → is_ahead s ≡ false → led_by board ahead s ≡ turned (led board (turned s))
-    unfolding led
-    led-behind s e = ap (λ (u : Sides). image_sides (board.image (symmetry_of board u.own)) s) (ahead-no s e)
+    canonical_form-second_half : (s : Sides) → is_first_half s ≡ false → canonical_by board to_first_half s ≡ swap_sides (canonical_form board (swap_sides s))
+    unfolding canonical_form
+    canonical_form-second_half s e = ap (λ (u : Sides). image_sides (board.image (symmetry_of board u.own)) s) (to_first_half-no s e)
 
     row_alone : (s t : Sides) → IsPosition board s → IsPosition board t → is_of c s ≡ true → is_of c t ≡ true
-        → row_index_of board board.points c s ≡ row_index_of board board.points c t → led_by board ahead s ≡ led_by board ahead t
-    row_alone s t h k s_of t_of same = elim (ahead_cases board.points c pair s s_of) [
-      | inl a ↦ elim (ahead_cases board.points c pair t t_of) [
+        → row_index_of board board.points c s ≡ row_index_of board board.points c t → canonical_by board to_first_half s ≡ canonical_by board to_first_half t
+    row_alone s t h k s_of t_of same = elim (first_half_cases board.points c pair s s_of) [
+      | inl a ↦ elim (first_half_cases board.points c pair t t_of) [
         | inl b ↦
-            led-ahead s a.0
-            ∙ led_same board board.points few refl y s t h k (a.1 ∙ sym b.1) (a.2 ∙ sym b.2) (sym (row_index-ahead board board.points c s a.0) ∙ same ∙ row_index-ahead board board.points c t b.0)
-            ∙ sym (led-ahead t b.0)
-        | inr b ↦ absurd (omega (arith, half_lt board few y s h c.greater c.lesser a.1 a.2, same, row_index-ahead board board.points c s a.0, row_index-behind board board.points c t b.0))
+            canonical_form-to_first_half s a.0
+            ∙ canonical_same board board.points few refl y s t h k (a.1 ∙ sym b.1) (a.2 ∙ sym b.2) (sym (row_index-to_first_half board board.points c s a.0) ∙ same ∙ row_index-to_first_half board board.points c t b.0)
+            ∙ sym (canonical_form-to_first_half t b.0)
+        | inr b ↦ absurd (omega (arith, half_lt board few y s h c.greater c.lesser a.1 a.2, same, row_index-to_first_half board board.points c s a.0, row_index-second_half board board.points c t b.0))
       ]
-      | inr a ↦ elim (ahead_cases board.points c pair t t_of) [
-        | inl b ↦ absurd (omega (arith, half_lt board few y t k c.greater c.lesser b.1 b.2, same, row_index-ahead board board.points c t b.0, row_index-behind board board.points c s a.0))
+      | inr a ↦ elim (first_half_cases board.points c pair t t_of) [
+        | inl b ↦ absurd (omega (arith, half_lt board few y t k c.greater c.lesser b.1 b.2, same, row_index-to_first_half board board.points c t b.0, row_index-second_half board board.points c s a.0))
         | inr b ↦
-            led-behind s a.0
-            ∙ ap turned (led_same board board.points few refl y (turned s) (turned t) (turned_here s h s_of) (turned_here t k t_of) (a.3 ∙ sym b.3) (a.2 ∙ sym b.2)
-            (omega (arith, same, row_index-behind board board.points c s a.0, row_index-behind board board.points c t b.0)))
-            ∙ sym (led-behind t b.0)
+            canonical_form-second_half s a.0
+            ∙ ap swap_sides (canonical_same board board.points few refl y (swap_sides s) (swap_sides t) (swapped_here s h s_of) (swapped_here t k t_of) (a.3 ∙ sym b.3) (a.2 ∙ sym b.2)
+            (omega (arith, same, row_index-second_half board board.points c s a.0, row_index-second_half board board.points c t b.0)))
+            ∙ sym (canonical_form-second_half t b.0)
       ]
     ]
 
-    ahead_here : (s : Sides) → IsPosition board s → is_of c s ≡ true → IsPosition board (ahead s)
-    ahead_here s h of = elim (cases_Bool (is_ahead s)) [
-      | inl e ↦ subst (IsPosition board) (sym (ahead-yes s e)) h
-      | inr e ↦ subst (IsPosition board) (sym (ahead-no s e)) (turned_here s h of)
+    first_half_here : (s : Sides) → IsPosition board s → is_of c s ≡ true → IsPosition board (to_first_half s)
+    first_half_here s h of = elim (cases_Bool (is_first_half s)) [
+      | inl e ↦ subst (IsPosition board) (sym (to_first_half-yes s e)) h
+      | inr e ↦ subst (IsPosition board) (sym (to_first_half-no s e)) (swapped_here s h of)
     ]
 
     row_there : (s : Sides) → IsPosition board s → is_of c s ≡ true
-        → row_index_of board board.points c (led_by board ahead s) ≡ row_index_of board board.points c s
-    unfolding row_index_of led
+        → row_index_of board board.points c (canonical_by board to_first_half s) ≡ row_index_of board board.points c s
+    unfolding row_index_of canonical_form
     row_there s h of =
-        let low = symmetry_within board few y (ahead s).own (ahead_within s h) in
+        let low = symmetry_within board few y (to_first_half s).own (first_half_within s h) in
         ap₂ (λ z i. z + i)
-        (ap (λ b. cond {A = ℕ} b 0 (half board board.points c)) (is_ahead-image (symmetry_of board (ahead s).own) low s h))
-        (ap (class_half_index board board.points) (ahead-image (symmetry_of board (ahead s).own) low s h) ∙ half_there board few y (ahead s) (ahead_here s h of))
+        (ap (λ b. cond {A = ℕ} b 0 (half board board.points c)) (is_first_half-image (symmetry_of board (to_first_half s).own) low s h))
+        (ap (class_half_index board board.points) (to_first_half-image (symmetry_of board (to_first_half s).own) low s h) ∙ half_there board few y (to_first_half s) (first_half_here s h of))
 
-    pub led-rows : IsLedBy board Rows c ahead
-    led-rows = record {
-      within = ahead_within;
-      image = λ k low s h. ap (λ (u : Sides). u.own) (ahead-image k low s h);
+    pub canonical_form-rows : IsCanonicalBy board Rows c to_first_half
+    canonical_form-rows = record {
+      within = first_half_within;
+      image = λ k low s h. ap (λ (u : Sides). u.own) (to_first_half-image k low s h);
       own = λ s. refl;
       below = row_index-lt;
       alone = row_alone;
@@ -335,8 +335,8 @@ module _ (board : Shape) (few : board.points ≤ 24) (y : HasSymmetries board) w
 
 pub laid_in : (board : Shape) → board.points ≤ 24 → HasSymmetries board → (o : Order) (c : Counts) → IsPair board.points c → IsLaid board o c
 laid_in board few y Full c pair = laid-full board few c
-laid_in board few y Classes c pair = laid-led board few y Classes c (λ s. s) (led-classes board few y c) pair
-laid_in board few y Rows c pair = laid-led board few y Rows c ahead (led-rows board few y c pair) pair
+laid_in board few y Classes c pair = laid-canonical_form board few y Classes c (λ s. s) (canonical_form-classes board few y c) pair
+laid_in board few y Rows c pair = laid-canonical_form board few y Rows c to_first_half (canonical_form-rows board few y c pair) pair
 
 -- and so in either layout of a table
 pub laid : (board : Shape) → board.points ≤ 24 → HasSymmetries board → (l : Layout) (c : Counts) → IsPair board.points c → IsLaid board (order_of l) c

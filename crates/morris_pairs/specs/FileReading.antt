@@ -65,17 +65,17 @@ kind_in board header =
     Ok (layout_in header.version, counts header.greater header.lesser))))))
 
 -- the next step: the number of entries is that of the pair in the layout
-unfoldable pub counted_in : Shape → Header → Layout × Counts → Result (Layout × Counts) ReadFault
-counted_in board header kind = unless (nat_eq header.entries (entry_count board board.points kind.0 kind.1)) fault.Count (Ok kind)
+unfoldable pub check_count : Shape → Header → Layout × Counts → Result (Layout × Counts) ReadFault
+check_count board header kind = unless (nat_eq header.entries (entry_count board board.points kind.0 kind.1)) fault.Count (Ok kind)
 
 -- all steps of a header
-unfoldable pub heading_in : Shape → Header → Result (Layout × Counts) ReadFault
-heading_in board header = and_then (kind_in board header) (counted_in board header)
+unfoldable pub check_header : Shape → Header → Result (Layout × Counts) ReadFault
+check_header board header = and_then (kind_in board header) (check_count board header)
 
 -- The steps before room is first taken. In layout Full these are all of them; in layout Classes the
 -- classes are made before their entries are counted.
 abbrev pub before_room : Shape → Header → Layout × Counts → Result (Layout × Counts) ReadFault
-before_room board header (Full, pair) = counted_in board header (Full, pair)
+before_room board header (Full, pair) = check_count board header (Full, pair)
 before_room board header (Classes, pair) = Ok (Classes, pair)
 
 unfoldable pub roomless_in : Shape → Header → Result (Layout × Counts) ReadFault
@@ -83,7 +83,7 @@ roomless_in board header = and_then (kind_in board header) (before_room board he
 
 -- the table whose header bytes begin with: there are 16 bytes, and these are a header
 unfoldable pub header_in : Shape → List ℕ → Result (Layout × Counts) ReadFault
-header_in board bytes = unless (nat_le 16 (length bytes)) fault.Short (heading_in board (header_at (take 16 bytes)))
+header_in board bytes = unless (nat_le 16 (length bytes)) fault.Short (check_header board (header_at (take 16 bytes)))
 
 -- ---- the codes and the digest
 
@@ -203,6 +203,6 @@ IsOfBytes fault.Read = ⊥
 IsOfBytes refusal = Unit {0}
 
 -- why a header was refused: room was missing, after all steps before it; or a step refused it
-abbrev pub IsHeadingRefusal : Shape → Header → ReadFault → Type 0
-IsHeadingRefusal board header fault.Memory = IsOk (roomless_in board header)
-IsHeadingRefusal board header refusal = (heading_in board header ≡ Err refusal) × IsOfBytes refusal
+abbrev pub IsHeaderRefusal : Shape → Header → ReadFault → Type 0
+IsHeaderRefusal board header fault.Memory = IsOk (roomless_in board header)
+IsHeaderRefusal board header refusal = (check_header board header ≡ Err refusal) × IsOfBytes refusal

@@ -42,11 +42,11 @@ tally_of board s p = count_by p (entries_of (net_at board s.level) s)
 -- Each decided entry, which isn't 0, is the game's value and exact depth at its position. The
 -- entries are those of the block's positions, one of each, and the three tallies together count
 -- each of them once.
-pub record TellsIn (board : Shape) (o : Order) (c : Counts) (s : BlockState) : Type 0 where
+pub record StatesIn (board : Shape) (o : Order) (c : Counts) (s : BlockState) : Type 0 where
   pub exact : (p : Sides) → IsPosition board p → is_of c p ≡ true → IsIn s.cut s.number (index_in board board.points o c p)
       → 0 < entry_of board o c s p → IsCodeOf board p (entry_of board o c s p)
   pub listed : entries_of (net_at board s.level) s ≡ map (entry_of board o c s) (positions_in board o c s)
   pub tallied : tally_of board s is_won_code + tally_of board s is_odd + tally_of board s (λ entry. entry == 0) ≡ length (positions_in board o c s)
 
-abbrev pub TellsTheGame : Shape → Layout → Counts → BlockState → Type 0
-TellsTheGame board l c s = TellsIn board (order_of l) c s
+abbrev pub StatesTheGame : Shape → Layout → Counts → BlockState → Type 0
+StatesTheGame board l c s = StatesIn board (order_of l) c s

@@ -10,18 +10,18 @@ use Rattle.morris_board.specs.Sets.{has, members, count_of}
 use Rattle.morris_board.specs.Positions.{Sides, sides, IsApart, IsPosition}
 use Rattle.morris_board.specs.Symmetries.{HasSymmetries}
 use Rattle.morris_board.proofs.PointsLaws.{all_members, members_all, count_of-le}
-use Rattle.morris_index.specs.Pairs.{Counts, counts, IsPair, is_pair, is_of, needed}
+use Rattle.morris_index.specs.Pairs.{Counts, counts, IsPair, is_pair, is_of, all_needs}
 use Rattle.morris_index.proofs.PairLaws.{pair_passes}
 use Rattle.morris_index.proofs.IndexLaws.{IsPlaced, placed}
 use Rattle.morris_index.proofs.ResultLaws.{is_of-quiet, is_of-capture}
-use Rattle.morris_moves.specs.declared.step.Move.{Move}
-use Rattle.morris_moves.specs.Rules.{closes, reach, takable, move, moves_to, moves_from, moves_of, result_of}
+use Rattle.morris_moves.specs.declared.game_move.Move.{Move}
+use Rattle.morris_moves.specs.Rules.{closes, reach, takable_stones, move, moves_to, moves_from, moves_of, result_of}
 use Rattle.morris_moves.proofs.ListLaws.{all_contained, contained_all, Contains-head, Contains-flat_map_cases, Contains-map_cases, length-flat_map_le}
 use Rattle.morris_moves.proofs.SetLaws.{point_lt}
 use Rattle.morris_moves.proofs.LegalLaws.{IsLegalMove, listed_move}
 use Rattle.morris_moves.proofs.ResultLaws.{IsPosition-result, count_of-mover, count_of-quiet, count_of-capture}
 use Rattle.morris_wave.specs.Nets.{Net, IsNet}
-use Rattle.morris_pairs.specs.PairNets.{all_sides, are_apart, is_at, at_index, is_quiet, is_capture, quiet_results, capture_codes, net_in, level_in, order_at, counts_at, keeps_limits, is_net, net_at}
+use Rattle.morris_pairs.specs.PairNets.{all_sides, are_apart, is_at, at_index, is_quiet, is_capture, quiet_results, capture_codes, net_in, level_in, order_at, counts_at, preserves_limits, is_net, net_at}
 use Rattle.morris_pairs.specs.Orders.{Order, Full, Classes, Rows, count_in, index_in, own_in}
 use Rattle.morris_pairs.specs.EntryLaws.{is_sized-is_of, IsLaid, laid_in, entries_few}
 use Rattle.morris_pairs.specs.Codes.{is_decided, code_to}
@@ -64,18 +64,18 @@ module _ (board : Shape) (few : board.points ≤ 24) (o : Order) (c : Counts) (l
   pub node_below : (s : Sides) → IsPosition board s → is_of c s ≡ true → index_in board board.points o c s < count_in board board.points o c
   node_below s h of = laid.below s h of
 
-  module _ (s : Sides) (h : IsPosition board s) (of : is_of c s ≡ true) (kept : own_in board o s ≡ true) where
+  module _ (s : Sides) (h : IsPosition board s) (of : is_of c s ≡ true) (is_own : own_in board o s ≡ true) where
     is_at-passes : is_at board o c (index_in board board.points o c s) s ≡ true
     is_at-passes =
         and_from (are_apart s) _ (are_apart-passes board s h.stones)
-        (and_from (is_of c s) _ of (and_from (own_in board o s) _ kept (eq-eqb (index_in board board.points o c s) _ refl)))
+        (and_from (is_of c s) _ of (and_from (own_in board o s) _ is_own (eq-eqb (index_in board board.points o c s) _ refl)))
 
     -- no other stones have its number for their own
     others : (t : Sides) → t.own < 2 ^ board.points → t.other < 2 ^ board.points → (t ≡ s → ⊥)
         → is_at board o c (index_in board board.points o c s) t ≡ false
     others t own other differ = false_from_ne_true _ (λ e.
         let w = placed_at (index_in board board.points o c s) t own other e in
-        differ (laid.alone t s w.0 (placed board board.points s refl h) w.1 of w.2 kept w.3))
+        differ (laid.alone t s w.0 (placed board board.points s refl h) w.1 of w.2 is_own w.3))
 
     -- a number that is a position's own is that position's, alone
     pub at_index-is : at_index board o c (index_in board board.points o c s) ≡ s ∷ []
@@ -124,14 +124,14 @@ module _ (board : Shape) (few : board.points ≤ 24) (o : Order) (c : Counts) (l
 
   -- ---- what a node leads to
 
-  module _ (s : Sides) (h : IsPosition board s) (of : is_of c s ≡ true) (kept : own_in board o s ≡ true) where
+  module _ (s : Sides) (h : IsPosition board s) (of : is_of c s ≡ true) (is_own : own_in board o s ≡ true) where
     pub quiet-at : (net_in board o c).quiet (index_in board board.points o c s) ≡ quiet_results board o c s
     unfolding net_in
-    quiet-at = ap (flat_map (quiet_results board o c)) (at_index-is s h of kept) ∙ flat_map-one (quiet_results board o c) s
+    quiet-at = ap (flat_map (quiet_results board o c)) (at_index-is s h of is_own) ∙ flat_map-one (quiet_results board o c) s
 
     pub exits-at : (net_in board o c).exits (index_in board board.points o c s) ≡ capture_codes board s
     unfolding net_in
-    exits-at = ap (flat_map (capture_codes board)) (at_index-is s h of kept) ∙ flat_map-one (capture_codes board) s
+    exits-at = ap (flat_map (capture_codes board)) (at_index-is s h of is_own) ∙ flat_map-one (capture_codes board) s
 
 pub size-net_in : (board : Shape) (o : Order) (c : Counts) → (net_in board o c).size ≡ count_in board board.points o c
 unfolding net_in
@@ -188,7 +188,7 @@ module _ (board : Shape) (few : board.points ≤ 24) (s : Sides) (h : IsPosition
 
   -- a capture leaves two stones to the player to move, or leads to a pair that this one needs
   pub capture-leads : (c : Counts) → IsPair board.points c → is_of c s ≡ true → is_quiet m ≡ false
-      → (count_of (result_of s m).own ≡ 2) ⊎ ((d : Counts) × Contains (needed c) d × (is_of d (result_of s m) ≡ true))
+      → (count_of (result_of s m).own ≡ 2) ⊎ ((d : Counts) × Contains (all_needs c) d × (is_of d (result_of s m) ≡ true))
   capture-leads c pair of takes =
       let t = is_none-false m.taken takes in
       is_of-capture board.points c s (result_of s m) pair of (sym (count_of-capture board s few h m legal t.0 t.1)) (count_of-mover board s few h m legal)
@@ -202,7 +202,7 @@ members_few s = count_of-le s
 moves_to_few : (board : Shape) (s : Sides) (u v : ℕ) → length (moves_to board s u v) ≤ 32
 unfolding moves_to
 moves_to_few board s u v = elim (cases_Bool (closes board s.own u v)) [
-  | inl shut ↦ rw shut (omega (arith, length-map (members (takable board s.other)) (λ t. move u v (Some t)), members_few (takable board s.other)))
+  | inl shut ↦ rw shut (omega (arith, length-map (members (takable_stones board s.other)) (λ t. move u v (Some t)), members_few (takable_stones board s.other)))
   | inr quiet ↦ rw quiet (omega arith)
 ]
 
@@ -293,10 +293,10 @@ module _ (board : Shape) (few : board.points ≤ 24) (y : HasSymmetries board) (
 -- ---- the test of a graph
 
 module _ (g : Net) where
-  limits_kept : (i : ℕ) → keeps_limits g i ≡ true
+  limits_preserved : (i : ℕ) → preserves_limits g i ≡ true
       → All (λ j. j < g.size) (g.quiet i) × (length (g.quiet i) ≤ 65535) × All (λ code. code ≤ 65535) (g.exits i)
-  unfolding keeps_limits
-  limits_kept i h =
+  unfolding preserves_limits
+  limits_preserved i h =
       let first = and_parts (list_all (λ j. ltb j g.size) (g.quiet i)) _ h in
       let second = and_parts (leb (length (g.quiet i)) 65535) (list_all (λ code. leb code 65535) (g.exits i)) first.1 in (
         All-from_contained (λ j. j < g.size) (g.quiet i) (λ j at. ltb-true j g.size (all_contained (λ j. ltb j g.size) (g.quiet i) first.0 j at)),
@@ -304,9 +304,9 @@ module _ (g : Net) where
         All-from_contained (λ code. code ≤ 65535) (g.exits i) (λ code at. leb-true code 65535 (all_contained (λ code. leb code 65535) (g.exits i) second.1 code at)),
       )
 
-  keeps : IsNet g → (i : ℕ) → i < g.size → keeps_limits g i ≡ true
-  unfolding keeps_limits
-  keeps h i low =
+  preserves : IsNet g → (i : ℕ) → i < g.size → preserves_limits g i ≡ true
+  unfolding preserves_limits
+  preserves h i low =
       and_from (list_all (λ j. ltb j g.size) (g.quiet i)) _
       (contained_all (λ j. ltb j g.size) (g.quiet i) (λ j at. lt-ltb j g.size (All-contains (λ j. j < g.size) (g.quiet i) j (h.inside i low) at)))
       (and_from (leb (length (g.quiet i)) 65535) _ (le-leb (length (g.quiet i)) 65535 (h.few i low))
@@ -316,18 +316,18 @@ module _ (g : Net) where
   unfolding is_net
   is_net-true h =
       and_from (leb g.size (2 ^ 40)) _ (le-leb g.size (2 ^ 40) h.small)
-      (contained_all (keeps_limits g) (range_with_len 0 g.size) (λ i at. keeps h i (omega (arith, (range_bounds 0 g.size i at).1))))
+      (contained_all (preserves_limits g) (range_with_len 0 g.size) (λ i at. preserves h i (omega (arith, (range_bounds 0 g.size i at).1))))
 
   IsNet-tested : is_net g ≡ true → IsNet g
   unfolding is_net
   IsNet-tested h =
-      let parts = and_parts (leb g.size (2 ^ 40)) (list_all (keeps_limits g) (range_with_len 0 g.size)) h in
-      let each : (i : ℕ) → i < g.size → keeps_limits g i ≡ true = below (keeps_limits g) g.size parts.1 in
+      let parts = and_parts (leb g.size (2 ^ 40)) (list_all (preserves_limits g) (range_with_len 0 g.size)) h in
+      let each : (i : ℕ) → i < g.size → preserves_limits g i ≡ true = below (preserves_limits g) g.size parts.1 in
       record {
         small = leb-true g.size (2 ^ 40) parts.0;
-        inside = λ i low. (limits_kept i (each i low)).0;
-        few = λ i low. (limits_kept i (each i low)).1;
-        codes = λ i low. (limits_kept i (each i low)).2;
+        inside = λ i low. (limits_preserved i (each i low)).0;
+        few = λ i low. (limits_preserved i (each i low)).1;
+        codes = λ i low. (limits_preserved i (each i low)).2;
       }
 
 -- a graph without nodes

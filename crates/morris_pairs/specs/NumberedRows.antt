@@ -5,7 +5,7 @@ use Rattle.morris_board.specs.Sets.{has}
 use Rattle.morris_board.specs.Boards.{Shape}
 use Rattle.morris_board.specs.Positions.{Sides, IsPosition}
 use Rattle.morris_index.specs.Numbering.{number_outside}
-use Rattle.morris_index.specs.Parts.{squeezed_below}
+use Rattle.morris_index.specs.Parts.{squeeze_below}
 use Rattle.morris_pairs.specs.declared.numbered_row.NumberedRow.{NumberedRow}
 use Rattle.morris_pairs.specs.declared.numbered_row.SmallCounts.{SmallCounts}
 use Rattle.morris_pairs.specs.Rows.{arrivals, IsRow}
@@ -21,16 +21,16 @@ count_at counts v = digit (has counts.ones v) + 2 * digit (has counts.twos v) + 
 -- What is kept of the own stones: what is kept by points, and the same by the numbers of the points
 -- that they leave free. Of the arrivals at a point only what is over whole sixteens is kept: a
 -- player has at most nine stones, so that is all of them.
-pub record IsNumbered (board : Shape) (n : ℕ) (kept : NumberedRow) : Type 0 where
-  pub row : IsRow board n kept.row
-  pub each : (v : ℕ) → v < n → has kept.row.own v ≡ false
-      → count_at kept.arrivals (number_outside kept.row.own v) ≡ arrivals board kept.row.own v % 16
-  pub closing : (v : ℕ) → v < n → has kept.row.own v ≡ false
-      → has kept.closing (number_outside kept.row.own v) ≡ has kept.row.closing v
+pub record IsNumbered (board : Shape) (n : ℕ) (cache : NumberedRow) : Type 0 where
+  pub row : IsRow board n cache.row
+  pub each : (v : ℕ) → v < n → has cache.row.own v ≡ false
+      → count_at cache.arrivals (number_outside cache.row.own v) ≡ arrivals board cache.row.own v % 16
+  pub closing : (v : ℕ) → v < n → has cache.row.own v ≡ false
+      → has cache.closing (number_outside cache.row.own v) ≡ has cache.row.closing v
 
 -- s is a position in which the player to move has these stones, and the opponent those with the
 -- numbers in the list.
 pub record AreNumbers (board : Shape) (n stones list : ℕ) (s : Sides) : Type 0 where
   pub lawful : IsPosition board s
   pub own : s.own ≡ stones
-  pub numbers : list ≡ squeezed_below stones s.other n
+  pub numbers : list ≡ squeeze_below stones s.other n

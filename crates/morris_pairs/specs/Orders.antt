@@ -7,7 +7,7 @@ use Rattle.morris_board.specs.Positions.{Sides}
 use Rattle.morris_index.specs.Pairs.{Counts, size_of, index_of}
 use Rattle.morris_index.specs.Classes.{representative_of}
 use Rattle.morris_index.specs.ClassPairs.{class_half_size, class_half_index, class_size_of, class_index_of}
-use Rattle.morris_index.specs.Facing.{turned}
+use Rattle.morris_index.specs.ByOpponent.{swap_sides}
 use Rattle.morris_pairs.specs.declared.layout.Layout.{Layout}
 use Rattle.morris_pairs.specs.declared.layout.Layout.TheVariants as layout
 
@@ -27,12 +27,12 @@ order_of layout.Classes = Classes
 -- ---- rows
 
 -- whether the player to move has at least as many stones as the opponent
-abbrev pub is_ahead : Sides → Bool
-is_ahead s = nat_le (count_of s.other) (count_of s.own)
+abbrev pub is_first_half : Sides → Bool
+is_first_half s = nat_le (count_of s.other) (count_of s.own)
 
 -- the position, turned where the opponent has more stones: then the other player is to move
-abbrev pub ahead : Sides → Sides
-ahead s = if is_ahead s then s else turned s
+abbrev pub to_first_half : Sides → Sides
+to_first_half s = if is_first_half s then s else swap_sides s
 
 -- How many numbers there are in rows, on n points: those of the classes of the greater number, and
 -- where the numbers of stones differ as many once more, for the positions that are turned.
@@ -43,7 +43,7 @@ row_size_of board n c =
 -- The number of a position in rows: that of the class of the position with more stones of the
 -- player to move; those of the turned ones stand behind the others.
 unfoldable pub row_index_of : Shape → ℕ → Counts → Sides → ℕ
-row_index_of board n c s = (if is_ahead s then 0 else class_half_size board n c.greater c.lesser) + class_half_index board n (ahead s)
+row_index_of board n c s = (if is_first_half s then 0 else class_half_size board n c.greater c.lesser) + class_half_index board n (to_first_half s)
 
 -- ---- all orders
 
@@ -64,4 +64,4 @@ index_in board n Rows c s = row_index_of board n c s
 abbrev pub own_in : Shape → Order → Sides → Bool
 own_in board Full s = true
 own_in board Classes s = nat_eq (representative_of board s.own) s.own
-own_in board Rows s = nat_eq (representative_of board (ahead s).own) (ahead s).own
+own_in board Rows s = nat_eq (representative_of board (to_first_half s).own) (to_first_half s).own

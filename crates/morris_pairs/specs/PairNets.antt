@@ -5,7 +5,7 @@ use Rattle.std.specs.List.{range_with_len, list_all, flat_map}
 use Rattle.morris_board.specs.Sets.{has, members}
 use Rattle.morris_board.specs.Boards.{Shape}
 use Rattle.morris_board.specs.Positions.{Sides, sides}
-use Rattle.morris_moves.specs.declared.step.Move.{Move}
+use Rattle.morris_moves.specs.declared.game_move.Move.{Move}
 use Rattle.morris_moves.specs.Rules.{moves_of, result_of}
 use Rattle.morris_index.specs.Pairs.{Counts, counts, is_pair, is_of}
 use Rattle.morris_wave.specs.Nets.{Net}
@@ -76,13 +76,13 @@ counts_at level =
     else (if nat_lt level 200 then counts ((level - 100) / 10) ((level - 100) % 10) else counts ((level - 200) / 10) ((level - 200) % 10))
 
 -- whether a node's quiet results are nodes, and its lists within the limits of a graph
-unfoldable pub keeps_limits : Net → ℕ → Bool
-keeps_limits g i =
+unfoldable pub preserves_limits : Net → ℕ → Bool
+preserves_limits g i =
     list_all (λ j. nat_lt j g.size) (g.quiet i) && (nat_le (length (g.quiet i)) 65535 && list_all (λ code. nat_le code 65535) (g.exits i))
 
 -- whether nodes and lists are a graph
 unfoldable pub is_net : Net → Bool
-is_net g = nat_le g.size (2 ^ 40) && list_all (keeps_limits g) (range_with_len 0 g.size)
+is_net g = nat_le g.size (2 ^ 40) && list_all (preserves_limits g) (range_with_len 0 g.size)
 
 abbrev empty_net : Net
 empty_net = record { size = 0; quiet = λ i. []; exits = λ i. [] }

@@ -5,7 +5,7 @@ use Rattle.morris_board.specs.Positions.{Sides, IsPosition}
 use Rattle.morris_index.specs.Pairs.{Counts, IsPair, is_of}
 use Rattle.morris_pairs.specs.declared.set_moves.SetTable.{SetTable}
 use Rattle.morris_pairs.specs.Orders.{Classes, Rows, index_in, own_in}
-use Rattle.morris_pairs.specs.SetMoves.{AreSetsKept}
+use Rattle.morris_pairs.specs.SetMoves.{AreSetsTabled}
 
 -- The graph of a pair of two different numbers, on n points, has what is kept of the classes of
 -- this pair, the classes of the sets of the greater number, and a table of sets.
@@ -14,7 +14,7 @@ pub record IsRowGraph (board : Shape) (n : ℕ) (c classes_of : Counts) (sets_of
   pub two : c.lesser < c.greater
   pub pair : classes_of ≡ c
   pub sets : sets_of ≡ c.greater
-  pub moves : AreSetsKept board n table
+  pub moves : AreSetsTabled board n table
 
 -- The nodes by rows of some positions of a pair with an entry of their own, on n points: of those
 -- of the entries by classes from `first` on.

@@ -3,7 +3,7 @@ use Rattle.std.specs.Prelude.{◌≡◌, ℕ, ◌+◌, ◌-◌, ◌*◌, true, B
 use Rattle.std.specs.List.{Contains, find}
 use Rattle.morris_board.specs.Boards.{Shape}
 use Rattle.morris_board.specs.Positions.{is_between}
-use Rattle.morris_index.specs.Pairs.{Counts, needed, below_of}
+use Rattle.morris_index.specs.Pairs.{Counts, all_needs, below_of}
 use Rattle.morris_pairs.specs.Tables.{Table, IsTable}
 
 -- a place for each two numbers of stones, with the table of that pair where there is one
@@ -31,8 +31,8 @@ pub record AreTables (board : Shape) (stored : Stored) : Type 0 where
   pub tables : (c : Counts) → IfSome (table_on stored c) (λ t. (t.pair ≡ c) × IsTable board t)
 
 -- what there is of a pair's table once those of fewer stones than this together are let go
-abbrev pub kept_from : ℕ → Stored → Counts → Option Table
-kept_from stones stored c = if nat_le stones (c.greater + c.lesser) then table_on stored c else None
+abbrev pub retained_from : ℕ → Stored → Counts → Option Table
+retained_from stones stored c = if nat_le stones (c.greater + c.lesser) then table_on stored c else None
 
 -- so is each on a shelf, and all pairs below a pair on the shelf are on it as well
 pub record IsShelf (board : Shape) (shelf : Stored) : Type 0 where
@@ -41,4 +41,4 @@ pub record IsShelf (board : Shape) (shelf : Stored) : Type 0 where
 
 -- the first of the pairs that a pair needs whose table isn't on the shelf
 abbrev pub first_missing : Stored → Counts → Option Counts
-first_missing shelf c = find (λ need. is_none (table_on shelf need)) (needed c)
+first_missing shelf c = find (λ need. is_none (table_on shelf need)) (all_needs c)

@@ -5,13 +5,13 @@ use Rattle.morris_pairs.specs.declared.build_fault.BuildFault.{BuildFault}
 use Rattle.morris_pairs.specs.declared.build_fault.BuildFault.TheVariants.{Needs, Workers, Blocks, Memory, Missing, TooDeep}
 
 -- the pair whose table is wanted, if that is the reason
-abbrev pub needed_by : {B : Type 0} → BuildFault B → Option Counts
-needed_by (Needs needs) = Some needs.0
-needed_by Workers = None
-needed_by Blocks = None
-needed_by Memory = None
-needed_by (Missing number) = None
-needed_by TooDeep = None
+abbrev pub needs_in : {B : Type 0} → BuildFault B → Option Counts
+needs_in (Needs needs) = Some needs.0
+needs_in Workers = None
+needs_in Blocks = None
+needs_in Memory = None
+needs_in (Missing number) = None
+needs_in TooDeep = None
 
 -- whether it is a reason for a graph, which wants the tables and, for classes, memory
 abbrev pub is_of_graph : {B : Type 0} → BuildFault B → Bool

@@ -11,14 +11,14 @@ ghost use Rattle.morris_pairs.specs.Entries.{entry_count, entry_index, has_own_e
 ghost use Rattle.morris_pairs.specs.Numberings.{layout_after, position_before};
 ghost use Rattle.morris_pairs.specs.PairNets.{capture_codes};
 ghost use Rattle.morris_pairs.specs.Rows.{AreClosing};
-ghost use Rattle.morris_pairs.specs.Worths.{best_of, code_of_worth};
+ghost use Rattle.morris_pairs.specs.Scores.{best_of, code_of_score};
 ghost use Rattle.morris_pairs.specs.Agreement.{code_from, result_codes, quiet_codes, Agrees, IsFirstIn};
 
 use crate::graph::PairGraph;
 use crate::numbering::{Numbering, Successors};
 use crate::raw::Raw;
 use crate::rows::Row;
-use crate::worths::{code_of_worth, worth, worth_of};
+use crate::scores::{code_of_score, score, score_of};
 use morris_board::board::Geometry;
 use morris_board::points::Points;
 use morris_board::position::Position;
@@ -71,7 +71,7 @@ fn best_from<B: Geometry>(
     for to in reach(position, from).iter() {
         if !closing.has(to) || !closes::<B>(own, from, to) {
             let after = entry_after(raw, successors, position, from, to);
-            best = best.max(worth(raw.code(after)));
+            best = best.max(score(raw.code(after)));
         }
     }
     best
@@ -91,11 +91,11 @@ fn best_after<B: Geometry>(
     requires position { position_before successors.now ≡ in_pair raw.now.pair position.now }
     requires closing { AreClosing B.shape B.POINTS position.now closing }
     requires captures { captures ≡ exits_of (capture_codes B.shape position.now) }
-    ensures { code_of_worth result ≡ code_from (result_codes B.shape raw.now position.now) }
+    ensures { code_of_score result ≡ code_from (result_codes B.shape raw.now position.now) }
 {
     // The proof learns here that codes have 16 bits.
     let _ = raw.pair();
-    let mut best = worth_of(captures);
+    let mut best = score_of(captures);
     for from in position.own().iter() {
         best = best_from(raw, successors, position, closing, from, best);
     }
@@ -106,10 +106,10 @@ fn best_after<B: Geometry>(
 /// results are left out, since none can do better.
 fn best_at_once<B: Geometry>(raw: &Raw<B>, position: &Position<B>, captures: Exits) -> Option<u32>
     requires { captures ≡ exits_of (capture_codes B.shape position.now) }
-    ensures { IfSome result (λ best. code_of_worth best ≡ code_from (result_codes B.shape raw.now position.now)) }
+    ensures { IfSome result (λ best. code_of_score best ≡ code_from (result_codes B.shape raw.now position.now)) }
 {
     match captures.least_lost {
-        Some(0) => Some(worth_of(captures)),
+        Some(0) => Some(score_of(captures)),
         _ => None,
     }
 }
@@ -135,7 +135,7 @@ pub(crate) fn is_code_after<B: Geometry>(
         Some(best) => best,
         None => best_after(raw, successors, position, closing, captures),
     };
-    u32::from(code) == code_of_worth(best)
+    u32::from(code) == code_of_score(best)
 }
 
 /// Whether the entry `index` of the table agrees, which `position` has for its own.
@@ -163,7 +163,7 @@ pub(crate) fn agrees<B: Geometry>(
             best_after(raw, &successors, position, closing, captures)
         }
     };
-    u32::from(raw.code(index)) == code_of_worth(best)
+    u32::from(raw.code(index)) == code_of_score(best)
 }
 
 /// The first entry that doesn't agree of those from `first` up to, not including, `end`.
@@ -189,7 +189,7 @@ pub(crate) fn first_in<B: Geometry>(
             return Some(index);
         }
         if index + 1 < end {
-            position = numbering.following(&position, index + 1);
+            position = numbering.next_position(&position, index + 1);
             row.follow(&position);
         }
     }

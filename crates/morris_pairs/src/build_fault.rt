@@ -52,9 +52,9 @@ impl<B: Geometry> From<AllocError> for BuildFault<B> {
 }
 
 impl<B: Geometry> From<SweepFault> for BuildFault<B> {
-    ghost use Rattle.morris_pairs.specs.Building.{swept};
+    ghost use Rattle.morris_pairs.specs.Building.{build_fault_of};
 
-    ghost from_gives = { λ fault result. result ≡ swept fault };
+    ghost from_gives = { λ fault result. result ≡ build_fault_of fault };
 
     fn from(fault: SweepFault) -> BuildFault<B> {
         match fault {

@@ -10,19 +10,19 @@ ghost use Rattle.std.specs.Prelude.{◌≡◌, ℕ, ◌<◌, ◌≤◌, true, If
 ghost use Rattle.std.specs.List.{All};
 ghost use Rattle.morris_index.specs.Moves.{InPair};
 ghost use Rattle.morris_pairs.specs.Entries.{entry_count};
-ghost use Rattle.morris_pairs.specs.Faces.{code_stated, codes_stated, EntryAgrees, FacesAgree};
-ghost use Rattle.morris_pairs.specs.KeptCaptures.{AreKept, codes_facing};
+ghost use Rattle.morris_pairs.specs.OpponentGroups.{code_stated, codes_stated, EntryAgrees, GroupAgrees};
+ghost use Rattle.morris_pairs.specs.CaptureCaches.{IsCaptureCache, codes_by_opponent};
 
 use crate::agreeing::is_code_after;
+use crate::capture_cache::CaptureCache;
 use crate::graph::PairGraph;
-use crate::kept_captures::KeptCaptures;
 use crate::layout::Layout;
 use crate::numbering::Successors;
 use crate::raw::Raw;
 use crate::rows::closing_at;
 use morris_board::board::Geometry;
+use morris_index::by_opponent::{GroupMember, list_by_opponent};
 use morris_index::class_pair::ClassPair;
-use morris_index::facing::{Faced, list_faced};
 use std::alloc::{AllocError, Global};
 use std::marker::Model;
 
@@ -30,24 +30,24 @@ use std::marker::Model;
 fn agree<B: Geometry>(
     graph: &PairGraph<B>,
     raw: &Raw<B>,
-    faced: &Faced<'_, B>,
+    member: &GroupMember<'_, B>,
     code: u16,
-    kept: &mut KeptCaptures,
+    cache: &mut CaptureCache,
 ) -> bool
     requires pair { graph.now ≡ raw.now.pair }
     requires layout { raw.now.layout ≡ Layout.Classes }
-    requires of { faced.now.pair ≡ raw.now.pair }
-    requires code { code ≡ code_stated B.shape raw.now faced.now }
-    requires kept { AreKept (codes_facing B.shape) kept.old }
-    ensures agrees { result ≡ true → EntryAgrees B.shape raw.now faced.now }
-    ensures kept { AreKept (codes_facing B.shape) kept.new }
+    requires of { member.now.pair ≡ raw.now.pair }
+    requires code { code ≡ code_stated B.shape raw.now member.now }
+    requires cache { IsCaptureCache (codes_by_opponent B.shape) cache.old }
+    ensures agrees { result ≡ true → EntryAgrees B.shape raw.now member.now }
+    ensures cache { IsCaptureCache (codes_by_opponent B.shape) cache.new }
 {
     // The proof learns here that the numbers of stones are those of a pair.
     let _ = raw.pair();
-    let after = faced.from();
+    let after = member.from();
     let position = after.position();
     let closing = closing_at(&position);
-    let captures = graph.exits_by_facing(&position, closing, kept);
+    let captures = graph.exits_by_opponent(&position, closing, cache);
     is_code_after(
         raw,
         code,
@@ -63,20 +63,20 @@ fn agree<B: Geometry>(
 fn all_agree<B: Geometry>(
     graph: &PairGraph<B>,
     raw: &Raw<B>,
-    faces: &[Faced<'_, B>],
+    group: &[GroupMember<'_, B>],
     codes: &[u16],
-    kept: &mut KeptCaptures,
+    cache: &mut CaptureCache,
 ) -> bool
     requires pair { graph.now ≡ raw.now.pair }
     requires layout { raw.now.layout ≡ Layout.Classes }
-    requires of { All (λ (q : InPair). q.pair ≡ raw.now.pair) faces.now }
-    requires codes { codes.now ≡ codes_stated B.shape raw.now faces.now }
-    requires kept { AreKept (codes_facing B.shape) kept.old }
-    ensures agree { result ≡ true → All (EntryAgrees B.shape raw.now) faces.now }
-    ensures kept { AreKept (codes_facing B.shape) kept.new }
+    requires of { All (λ (q : InPair). q.pair ≡ raw.now.pair) group.now }
+    requires codes { codes.now ≡ codes_stated B.shape raw.now group.now }
+    requires cache { IsCaptureCache (codes_by_opponent B.shape) cache.old }
+    ensures agree { result ≡ true → All (EntryAgrees B.shape raw.now) group.now }
+    ensures cache { IsCaptureCache (codes_by_opponent B.shape) cache.new }
 {
-    for place in 0..faces.len() {
-        if !agree(graph, raw, &faces[place], codes[place], kept) {
+    for place in 0..group.len() {
+        if !agree(graph, raw, &group[place], codes[place], cache) {
             return false;
         }
     }
@@ -89,16 +89,16 @@ fn all_agree<B: Geometry>(
 /// [`AllocError`] where memory is refused.
 fn list_codes<B: Geometry>(
     raw: &Raw<B>,
-    faces: &[Faced<'_, B>],
+    group: &[GroupMember<'_, B>],
     out: &mut Vec<u16>,
 ) -> Result<(), AllocError>
     requires layout { raw.now.layout ≡ Layout.Classes }
-    requires of { All (λ (q : InPair). q.pair ≡ raw.now.pair) faces.now }
-    ensures { OnOk result (out.new.items ≡ codes_stated B.shape raw.now faces.now) }
+    requires of { All (λ (q : InPair). q.pair ≡ raw.now.pair) group.now }
+    ensures { OnOk result (out.new.items ≡ codes_stated B.shape raw.now group.now) }
 {
     out.clear();
-    for faced in faces {
-        out.push(raw.code(faced.entry()))?;
+    for member in group {
+        out.push(raw.code(member.entry()))?;
     }
     Ok(())
 }
@@ -107,32 +107,32 @@ fn list_codes<B: Geometry>(
 #[derive(Drop)]
 pub(crate) struct Lists<'a, B: Geometry> {
     /// The positions that face those of some entries.
-    faces: Vec<Faced<'a, B>>,
+    group: Vec<GroupMember<'a, B>>,
     /// The codes that the table states for them.
     codes: Vec<u16>,
     /// What is kept of the captures of these positions.
-    kept: KeptCaptures,
+    cache: CaptureCache,
 }
 
 impl<'a, B: Geometry> Model for Lists<'a, B> {
     ghost use Rattle.std.specs.Prelude.{List};
     ghost use Rattle.morris_index.specs.Moves.{InPair};
-    ghost use Rattle.morris_pairs.specs.KeptCaptures.{AreKept, codes_facing};
+    ghost use Rattle.morris_pairs.specs.CaptureCaches.{IsCaptureCache, codes_by_opponent};
 
     ghost Value = { List InPair };
 
-    ghost view = { λ lists. lists.faces.items };
+    ghost view = { λ lists. lists.group.items };
 
-    ghost invariant = { λ lists. AreKept (codes_facing B.shape) lists.kept };
+    ghost invariant = { λ lists. IsCaptureCache (codes_by_opponent B.shape) lists.cache };
 }
 
 impl<'a, B: Geometry> Lists<'a, B> {
     /// Empty lists, and nothing kept.
     pub(crate) fn new(alloc: Global) -> Lists<'a, B> {
         Lists {
-            faces: Vec::new(alloc),
+            group: Vec::new(alloc),
             codes: Vec::new(alloc),
-            kept: KeptCaptures::new(alloc),
+            cache: CaptureCache::new(alloc),
         }
     }
 
@@ -141,7 +141,7 @@ impl<'a, B: Geometry> Lists<'a, B> {
     ///
     /// # Errors
     /// [`AllocError`] where memory is refused.
-    pub(crate) fn faces_agree(
+    pub(crate) fn group_agrees(
         &mut self,
         classes: &'a ClassPair<B>,
         graph: &PairGraph<B>,
@@ -153,10 +153,10 @@ impl<'a, B: Geometry> Lists<'a, B> {
         requires classes { classes.now ≡ raw.now.pair }
         requires layout { raw.now.layout ≡ Layout.Classes }
         requires inside { end ≤ entry_count B.shape B.POINTS raw.now.layout raw.now.pair }
-        ensures { IfOk result (λ yes. yes ≡ true → (k : ℕ) → first ≤ k → k < end → FacesAgree B.shape raw.now k) }
+        ensures { IfOk result (λ yes. yes ≡ true → (k : ℕ) → first ≤ k → k < end → GroupAgrees B.shape raw.now k) }
     {
-        list_faced(classes, first, end, &mut self.faces)?;
-        list_codes(raw, &self.faces, &mut self.codes)?;
-        Ok(all_agree(graph, raw, &self.faces, &self.codes, &mut self.kept))
+        list_by_opponent(classes, first, end, &mut self.group)?;
+        list_codes(raw, &self.group, &mut self.codes)?;
+        Ok(all_agree(graph, raw, &self.group, &self.codes, &mut self.cache))
     }
 }

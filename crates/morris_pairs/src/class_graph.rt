@@ -3,21 +3,21 @@ ghost use Rattle.std.specs.Prelude.{◌≡◌, ℕ, ◌↔◌, None, true, IfErr
 ghost use Rattle.morris_wave.specs.Blocks.{BlockState};
 ghost use Rattle.morris_wave.specs.Values.{HasCode, IsTooDeep};
 ghost use Rattle.morris_pairs.specs.Graphs.{HasGameValues};
-ghost use Rattle.morris_pairs.specs.Headline.{IsBlockIn, TellsIn};
+ghost use Rattle.morris_pairs.specs.Headline.{IsBlockIn, StatesIn};
 ghost use Rattle.morris_pairs.specs.Known.{IsBeyondCodes};
 ghost use Rattle.morris_pairs.specs.Orders.{Order};
 ghost use Rattle.morris_pairs.specs.PairNets.{level_of, net_at};
 ghost use Rattle.morris_pairs.specs.Shelves.{first_missing};
-ghost use Rattle.morris_pairs.specs.Sweeping.{needed_by, is_of_graph};
+ghost use Rattle.morris_pairs.specs.Sweeping.{needs_in, is_of_graph};
 ghost use Rattle.morris_pairs.specs.Tables.{table};
 
-use crate::backward::{list_before_all, list_entries_before};
 use crate::build_fault::BuildFault;
 use crate::exact::Exact;
 use crate::graph::PairGraph;
 use crate::layout::Layout;
 use crate::levels::PairLevels;
 use crate::numbering::Numbering;
+use crate::predecessors::{list_predecessors, list_predecessors_of_all};
 use crate::row_reading::read_rows;
 use crate::rows::Row;
 use crate::shelf::Shelf;
@@ -66,7 +66,7 @@ impl<'a, B: Geometry> ClassGraph<'a, B> {
         shelf: &'a Shelf<B>,
         pair: Pair<B>,
     ) -> Result<ClassGraph<'a, B>, BuildFault<B>>
-        ensures needs { MatchResult result (λ _. first_missing shelf.now pair ≡ None) (λ fault. needed_by fault ≡ first_missing shelf.now pair) }
+        ensures needs { MatchResult result (λ _. first_missing shelf.now pair ≡ None) (λ fault. needs_in fault ≡ first_missing shelf.now pair) }
         // Nothing but a table or memory can be wanting.
         ensures alone { IfErr result (λ fault. is_of_graph fault ≡ true) }
         ensures pair { IfOk result (λ graph. graph ≡ pair) }
@@ -74,7 +74,7 @@ impl<'a, B: Geometry> ClassGraph<'a, B> {
         ensures deep { OnOk result (IsTooDeep (net_at B.shape (level_of Layout.Classes pair)) ↔ IsBeyondCodes B.shape pair) }
         // What the blocks of the graph hold, at any wave and whatever is applied, is the game's,
         // also where a table is missing.
-        ensures blocks { (o : Order) (s : BlockState) → IsBlockIn B.shape o pair s → TellsIn B.shape o pair s }
+        ensures blocks { (o : Order) (s : BlockState) → IsBlockIn B.shape o pair s → StatesIn B.shape o pair s }
     {
         ClassGraph::over(alloc, shelf.tables(), pair)
     }
@@ -88,7 +88,7 @@ impl<'a, B: Geometry> ClassGraph<'a, B> {
         tables: &'a TableSet<B>,
         pair: Pair<B>,
     ) -> Result<ClassGraph<'a, B>, BuildFault<B>>
-        ensures needs { MatchResult result (λ _. first_missing tables.now pair ≡ None) (λ fault. needed_by fault ≡ first_missing tables.now pair) }
+        ensures needs { MatchResult result (λ _. first_missing tables.now pair ≡ None) (λ fault. needs_in fault ≡ first_missing tables.now pair) }
         // Nothing but a table or memory can be wanting.
         ensures alone { IfErr result (λ fault. is_of_graph fault ≡ true) }
         ensures pair { IfOk result (λ graph. graph ≡ pair) }
@@ -96,7 +96,7 @@ impl<'a, B: Geometry> ClassGraph<'a, B> {
         ensures deep { OnOk result (IsTooDeep (net_at B.shape (level_of Layout.Classes pair)) ↔ IsBeyondCodes B.shape pair) }
         // What the blocks of the graph hold, at any wave and whatever is applied, is the game's,
         // also where a table is missing.
-        ensures blocks { (o : Order) (s : BlockState) → IsBlockIn B.shape o pair s → TellsIn B.shape o pair s }
+        ensures blocks { (o : Order) (s : BlockState) → IsBlockIn B.shape o pair s → StatesIn B.shape o pair s }
     {
         // The proof learns here that the numbers of stones are those of a pair.
         let _ = pair.greater();
@@ -156,7 +156,7 @@ impl<'a, B: Board> Graph for ClassGraph<'a, B> {
     }
 
     fn back(&self, i: u64, out: &mut Vec<u64>) -> Result<(), AllocError> {
-        list_entries_before(&self.numbering, &self.numbering.position(i), out)
+        list_predecessors(&self.numbering, &self.numbering.position(i), out)
     }
 
     fn back_from(
@@ -165,6 +165,6 @@ impl<'a, B: Board> Graph for ClassGraph<'a, B> {
         nodes: &[u64],
         out: &mut Vec<u64>,
     ) -> Result<(), AllocError> {
-        list_before_all(&self.numbering, nodes, out)
+        list_predecessors_of_all(&self.numbering, nodes, out)
     }
 }

@@ -249,11 +249,11 @@ impl<B: Geometry, C: Coded> Entries<B, C> {
         // The proof learns here how many entries there may be, and the pair's rules.
         let _ = (self.numbering.count(), self.numbering.pair());
         match &self.numbering {
-            Numbering::Full(_) => count_stretch(&mut self.codes, first, end, 1, tallies),
+            Numbering::Full(_) => count_chunk(&mut self.codes, first, end, 1, tallies),
             Numbering::Classes(classes) if all => {
                 count_rows(classes, &mut self.codes, first, end, tallies)
             }
-            Numbering::Classes(_) => count_stretch(&mut self.codes, first, end, 1, tallies),
+            Numbering::Classes(_) => count_chunk(&mut self.codes, first, end, 1, tallies),
         }
     }
 }
@@ -267,34 +267,34 @@ fn no_tallies(alloc: Global, count: usize) -> Result<Vec<u64>, AllocError>
     Ok(tallies)
 }
 
-/// Adds `weight` for the code of each entry from `first` on and below `end`, each of which so many
+/// Adds `orbit_size` for the code of each entry from `first` on and below `end`, each of which so many
 /// positions have.
 ///
 /// # Errors
 /// [`Failed`] where a code can't be read.
-fn count_stretch<C: Coded>(
+fn count_chunk<C: Coded>(
     codes: &mut C,
     first: u64,
     end: u64,
-    weight: u64,
+    orbit_size: u64,
     tallies: &mut [u64],
 ) -> Result<(), Failed>
     requires order { first ≤ end }
     requires inside { end ≤ C.many codes.old }
     requires few { end ≤ 2 ^ 40 }
-    requires weight { weight ≤ 16 }
+    requires orbit_size { orbit_size ≤ 16 }
     requires room { length tallies.old ≡ 2 ^ 16 }
     requires small { (code : ℕ) → slice_index tallies.old code ≤ 16 * first }
     ensures stays { (C.stated codes.new ≡ C.stated codes.old) × (C.unfailing codes.new ≡ C.unfailing codes.old) × (C.many codes.new ≡ C.many codes.old) }
     ensures small { OnOk result ((code : ℕ) → slice_index tallies.new code ≤ 16 * end) }
     ensures counted { OnOk result ((board : Shape) (t : Table) (all : Bool) (start : ℕ) → start ≤ first → C.stated codes.old ≡ Some t.codes
-        → ((entry : ℕ) → first ≤ entry → entry < end → AreSoMany (IsOfEntry board t.layout t.pair all entry) weight)
+        → ((entry : ℕ) → first ≤ entry → entry < end → AreSoMany (IsOfEntry board t.layout t.pair all entry) orbit_size)
         → AreTalliesOf board t all start first tallies.old → AreTalliesOf board t all start end tallies.new) }
     ensures sure { C.unfailing codes.old ≡ true → IsOk result }
 {
     for entry in first..end {
         let code = codes.read_code(entry)?;
-        tallies[usize::from(code)] += weight;
+        tallies[usize::from(code)] += orbit_size;
     }
     Ok(())
 }
@@ -328,7 +328,7 @@ fn count_rows<B: Geometry, C: Coded>(
     while entry < end {
         let row = classes.row_from(entry);
         let next = end.min(entry + row.len() as u64);
-        count_stretch(codes, entry, next, classes.share(&row), tallies)?;
+        count_chunk(codes, entry, next, classes.orbit_size(&row), tallies)?;
         entry = next;
     }
     Ok(())

@@ -3,8 +3,8 @@ ghost use Rattle.std.specs.Prelude.{◌≡◌, ℕ, ◌+◌, ◌*◌, ◌<◌, �
 ghost use Rattle.std.specs.Option.{option_copied};
 ghost use Rattle.morris_board.specs.Positions.{IsPosition};
 ghost use Rattle.morris_board.specs.Sets.{has, members, count_of};
-ghost use Rattle.morris_moves.specs.declared.step.Move.{Move};
-ghost use Rattle.morris_moves.specs.Rules.{takable};
+ghost use Rattle.morris_moves.specs.declared.game_move.Move.{Move};
+ghost use Rattle.morris_moves.specs.Rules.{takable_stones};
 ghost use Rattle.morris_index.specs.Pairs.{IsPair, is_of, less_lesser, less_greater};
 ghost use Rattle.morris_pairs.specs.Rows.{AreClosing, IsRow};
 ghost use Rattle.morris_wave.specs.Blocks.{BlockState};
@@ -16,17 +16,17 @@ ghost use Rattle.morris_pairs.specs.PairNets.{capture_codes, level_in, level_of,
 ghost use Rattle.morris_pairs.specs.Known.{IsBeyondCodes};
 ghost use Rattle.morris_pairs.specs.Tables.{table};
 ghost use Rattle.morris_pairs.specs.Shelves.{table_on, first_missing};
-ghost use Rattle.morris_pairs.specs.Headline.{IsBlockIn, TellsIn};
+ghost use Rattle.morris_pairs.specs.Headline.{IsBlockIn, StatesIn};
 ghost use Rattle.morris_pairs.specs.Captured.{captured_pair, IsLeft, IsClosing, captures_at, captures_to};
 ghost use Rattle.morris_pairs.specs.Graphs.{IsTableOf, IsNeeded, exits_by, HasGameValues, HasValuesIn};
-ghost use Rattle.morris_pairs.specs.KeptCaptures.{AreKept, codes_left, open_ends};
+ghost use Rattle.morris_pairs.specs.CaptureCaches.{IsCaptureCache, codes_left, open_ends};
 
-use crate::backward::{list_before_all, list_entries_before};
+use crate::capture_cache::CaptureCache;
 use crate::exact::Exact;
-use crate::kept_captures::KeptCaptures;
 use crate::layout::Layout;
 use crate::levels::PairLevels;
 use crate::numbering::Numbering;
+use crate::predecessors::{list_predecessors, list_predecessors_of_all};
 use crate::rows::Row;
 use crate::shelf::{Needs, Shelf};
 use crate::table_set::TableSet;
@@ -35,7 +35,7 @@ use morris_board::points::Points;
 use morris_board::position::Position;
 use morris_index::pair::Pair;
 use morris_index::standing::Standing;
-use morris_moves::rules::takable;
+use morris_moves::rules::takable_stones;
 use morris_wave::{Exits, Graph};
 use std::alloc::{AllocError, Global};
 use std::marker::Model;
@@ -113,7 +113,7 @@ pub(crate) fn capture_ends<B: Geometry>(
     ensures known { IfErr result (λ exits. exits ≡ exits_of (capture_codes B.shape position.now)) }
 {
     let other = position.other();
-    let ends = closing.less(other);
+    let ends = closing.difference(other);
     if ends == Points::EMPTY {
         return Err(Exits::NONE);
     }
@@ -144,8 +144,8 @@ fn with_closers<B: Geometry>(
     let own = position.own();
     let mut exits = known;
     for from in closers.iter() {
-        let facing = own.without(from).with(to);
-        exits = exits.with(table.code_at(standing, facing));
+        let opponent_set = own.without(from).with(to);
+        exits = exits.with(table.code_at(standing, opponent_set));
     }
     exits
 }
@@ -165,7 +165,7 @@ fn with_captures<B: Geometry>(
     requires row { IsRow B.shape B.POINTS row.now }
     requires own { row.now.own ≡ position.now.own }
     requires lawful { IsPosition B.shape position.now }
-    requires taken { has (takable B.shape position.now.other) taken ≡ true }
+    requires taken { has (takable_stones B.shape position.now.other) taken ≡ true }
     requires ends { ends ≡ open_ends B.shape position.now.own position.now.other }
     ensures { (done : List Move) → known ≡ exits_by B.shape position.now done
         → result ≡ exits_by B.shape position.now (done ++ captures_to row.now.closers taken (members ends)) }
@@ -189,27 +189,27 @@ fn captures_of<B: Geometry>(
     position: &Position<B>,
     taken: u8,
     ends: Points,
-    kept: &mut KeptCaptures,
+    cache: &mut CaptureCache,
 ) -> Exits
     requires table { IsTableOf B.shape (captured_pair position.now) table.now }
     requires row { IsRow B.shape B.POINTS row.now }
     requires own { row.now.own ≡ position.now.own }
     requires lawful { IsPosition B.shape position.now }
-    requires taken { has (takable B.shape position.now.other) taken ≡ true }
+    requires taken { has (takable_stones B.shape position.now.other) taken ≡ true }
     requires ends { ends ≡ open_ends B.shape position.now.own position.now.other }
-    requires kept { AreKept (codes_left B.shape) kept.old }
+    requires cache { IsCaptureCache (codes_left B.shape) cache.old }
     ensures value { result ≡ exits_by B.shape position.now (captures_to row.now.closers taken (members ends)) }
-    ensures kept { AreKept (codes_left B.shape) kept.new }
+    ensures cache { IsCaptureCache (codes_left B.shape) cache.new }
 {
     if row.closing.has(taken) {
         return with_captures(table, row, position, taken, ends, Exits::NONE);
     }
     let left = position.other().without(taken);
-    if let Some(results) = kept.get(row.own, left) {
+    if let Some(results) = cache.get(row.own, left) {
         return results;
     }
     let results = with_captures(table, row, position, taken, ends, Exits::NONE);
-    kept.put(row.own, left, results);
+    cache.put(row.own, left, results);
     results
 }
 
@@ -225,7 +225,7 @@ impl<'a, B: Geometry> PairGraph<'a, B> {
         ensures deep { OnOk result ((l : Layout) → (IsTooDeep (net_at B.shape (level_of l pair)) ↔ IsBeyondCodes B.shape pair)) }
         // What the blocks of the graph hold, at any wave and whatever is applied, is the game's,
         // also where a table is missing.
-        ensures blocks { (o : Order) (s : BlockState) → IsBlockIn B.shape o pair s → TellsIn B.shape o pair s }
+        ensures blocks { (o : Order) (s : BlockState) → IsBlockIn B.shape o pair s → StatesIn B.shape o pair s }
     {
         PairGraph::over(shelf.tables(), pair)
     }
@@ -241,7 +241,7 @@ impl<'a, B: Geometry> PairGraph<'a, B> {
         ensures deep { OnOk result ((l : Layout) → (IsTooDeep (net_at B.shape (level_of l pair)) ↔ IsBeyondCodes B.shape pair)) }
         // What the blocks of the graph hold, at any wave and whatever is applied, is the game's,
         // also where a table is missing.
-        ensures blocks { (o : Order) (s : BlockState) → IsBlockIn B.shape o pair s → TellsIn B.shape o pair s }
+        ensures blocks { (o : Order) (s : BlockState) → IsBlockIn B.shape o pair s → StatesIn B.shape o pair s }
     {
         let (less_lesser, less_greater) = captured_pairs(&pair);
         if let Some(needs) = tables.missing(pair) {
@@ -318,26 +318,26 @@ impl<'a, B: Geometry> PairGraph<'a, B> {
         };
         let table = self.captured_table(position);
         let mut exits = Exits::NONE;
-        for taken in takable::<B>(position.other()).iter() {
+        for taken in takable_stones::<B>(position.other()).iter() {
             exits = with_captures(table, row, position, taken, ends, exits);
         }
         exits
     }
 
     /// The same, with the summaries of captures that are kept from position to position.
-    pub(crate) fn exits_by_kept(
+    pub(crate) fn exits_with_cache(
         &self,
         row: &Row,
         position: &Position<B>,
-        kept: &mut KeptCaptures,
+        cache: &mut CaptureCache,
     ) -> Exits
         requires counts { is_of self.now position.now ≡ true }
         requires lawful { IsPosition B.shape position.now }
         requires own { row.now.own ≡ position.now.own }
         requires row { IsRow B.shape B.POINTS row.now }
-        requires kept { AreKept (codes_left B.shape) kept.old }
+        requires cache { IsCaptureCache (codes_left B.shape) cache.old }
         ensures value { result ≡ exits_of (capture_codes B.shape position.now) }
-        ensures kept { AreKept (codes_left B.shape) kept.new }
+        ensures cache { IsCaptureCache (codes_left B.shape) cache.new }
     {
         let ends = match capture_ends(position, row.closing) {
             Ok(ends) => ends,
@@ -345,8 +345,8 @@ impl<'a, B: Geometry> PairGraph<'a, B> {
         };
         let table = self.captured_table(position);
         let mut exits = Exits::NONE;
-        for taken in takable::<B>(position.other()).iter() {
-            exits = exits.joined(captures_of(table, row, position, taken, ends, kept));
+        for taken in takable_stones::<B>(position.other()).iter() {
+            exits = exits.merge(captures_of(table, row, position, taken, ends, cache));
         }
         exits
     }
@@ -398,14 +398,14 @@ impl<'a, B: Board> Graph for PairGraph<'a, B> {
             counts[place] = row.quiet_moves(&position);
             exits[place] = self.exits_by_row(&row, &position);
             if place + 1 < counts.len() {
-                position = self.pair.following(&position, first + place as u64 + 1);
+                position = self.pair.next_position(&position, first + place as u64 + 1);
                 row.follow(&position);
             }
         }
     }
 
     fn back(&self, i: u64, out: &mut Vec<u64>) -> Result<(), AllocError> {
-        list_entries_before(&Numbering::Full(self.pair), &self.pair.position(i), out)
+        list_predecessors(&Numbering::Full(self.pair), &self.pair.position(i), out)
     }
 
     fn back_from(
@@ -414,6 +414,6 @@ impl<'a, B: Board> Graph for PairGraph<'a, B> {
         nodes: &[u64],
         out: &mut Vec<u64>,
     ) -> Result<(), AllocError> {
-        list_before_all(&Numbering::Full(self.pair), nodes, out)
+        list_predecessors_of_all(&Numbering::Full(self.pair), nodes, out)
     }
 }

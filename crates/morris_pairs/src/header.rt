@@ -4,7 +4,7 @@ ghost use Rattle.sha2.specs.Hashers.{Holds256};
 ghost use Rattle.morris_pairs.specs.Numberings.{layout_of, pair_of};
 ghost use Rattle.morris_pairs.specs.Tables.{IsTable};
 ghost use Rattle.morris_pairs.specs.TableFiles.{header_of, version_of};
-ghost use Rattle.morris_pairs.specs.FileReading.{header_at, kind_in, heading_in, IsOfBytes, IsHeadingRefusal};
+ghost use Rattle.morris_pairs.specs.FileReading.{header_at, kind_in, check_header, IsOfBytes, IsHeaderRefusal};
 ghost use Rattle.morris_pairs.specs.Headers.{header_bytes};
 
 use crate::exact::Exact;
@@ -96,10 +96,10 @@ impl Header {
     /// # Errors
     /// The first of `Magic`, `Version`, `BoardId`, `Counts` and `Crowded` that applies; then
     /// `Memory` where there is no room for the classes; then `Count`.
-    #[tactic(auto, unfolding(crate::specs::FileReading::heading_in, crate::specs::FileReading::counted_in))]
+    #[tactic(auto, unfolding(crate::specs::FileReading::check_header, crate::specs::FileReading::check_count))]
     pub(crate) fn numbering<B: Geometry>(&self, alloc: Global) -> Result<Numbering<B>, ReadFault>
-        ensures found { IfOk result (λ made. heading_in B.shape self.now ≡ Ok (layout_of made, pair_of made)) }
-        ensures refused { IfErr result (IsHeadingRefusal B.shape self.now) }
+        ensures found { IfOk result (λ made. check_header B.shape self.now ≡ Ok (layout_of made, pair_of made)) }
+        ensures refused { IfErr result (IsHeaderRefusal B.shape self.now) }
     {
         let (layout, pair) = self.kind()?;
         let numbering = Numbering::make(alloc, pair, layout)?;

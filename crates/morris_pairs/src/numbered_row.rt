@@ -75,10 +75,10 @@ impl SmallCounts {
     pub(crate) fn sum_over(self, numbers: Points) -> u16
         ensures { result ≡ sum_by (count_at self) (members numbers) }
     {
-        u16::from(numbers.common(self.ones).count())
-            + 2 * u16::from(numbers.common(self.twos).count())
-            + 4 * u16::from(numbers.common(self.fours).count())
-            + 8 * u16::from(numbers.common(self.eights).count())
+        u16::from(numbers.intersection(self.ones).count())
+            + 2 * u16::from(numbers.intersection(self.twos).count())
+            + 4 * u16::from(numbers.intersection(self.fours).count())
+            + 8 * u16::from(numbers.intersection(self.eights).count())
     }
 }
 
@@ -108,7 +108,7 @@ impl NumberedRow {
 
     /// How many of the legal moves are quiet where the opponent's stones have these numbers.
     pub(crate) fn quiet_moves<B: Geometry>(&self, numbers: Points) -> u16
-        requires kept { IsNumbered B.shape B.POINTS self.now }
+        requires cache { IsNumbered B.shape B.POINTS self.now }
         requires stands { (s : Sides) × AreNumbers B.shape B.POINTS self.now.row.own numbers s }
         ensures { (s : Sides) → AreNumbers B.shape B.POINTS self.now.row.own numbers s
             → result ≡ length (filter is_quiet (moves_of B.shape s)) }
@@ -119,11 +119,11 @@ impl NumberedRow {
     /// Whether there may be captures where the opponent's stones have these numbers: there are none
     /// where each point at which a move closes a mill has one of them.
     pub(crate) fn may_capture<B: Geometry>(&self, numbers: Points) -> bool
-        requires kept { IsNumbered B.shape B.POINTS self.now }
+        requires cache { IsNumbered B.shape B.POINTS self.now }
         ensures { result ≡ false → (s : Sides) → AreNumbers B.shape B.POINTS self.now.row.own numbers s
             → list_any is_capture (moves_of B.shape s) ≡ false }
     {
-        let open = self.closing.less(numbers);
+        let open = self.closing.difference(numbers);
         open != Points::EMPTY
     }
 }

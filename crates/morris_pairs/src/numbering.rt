@@ -4,11 +4,11 @@ ghost use Rattle.morris_board.specs.Sets.{has, members, count_of};
 ghost use Rattle.morris_board.specs.Positions.{sides, IsPosition};
 ghost use Rattle.morris_moves.specs.Rules.{move};
 ghost use Rattle.morris_index.specs.Pairs.{IsPair, is_of};
-ghost use Rattle.morris_index.specs.Moves.{in_pair, moved_on};
+ghost use Rattle.morris_index.specs.Moves.{in_pair, move_sides};
 ghost use Rattle.morris_index.specs.Standings.{are_of};
 ghost use Rattle.morris_pairs.specs.Entries.{entry_count, entry_index, has_own_entry};
 ghost use Rattle.morris_pairs.specs.Numberings.{layout_of, pair_of, layout_after, position_before, layout_before, position_after};
-ghost use Rattle.morris_pairs.specs.Backward.{entries_leading};
+ghost use Rattle.morris_pairs.specs.Predecessors.{predecessors_of};
 ghost use Rattle.morris_pairs.specs.Captured.{IsStandingIn};
 
 use crate::layout::Layout;
@@ -154,7 +154,7 @@ impl<B: Geometry> Numbering<B> {
     }
 
     /// [`Numbering::position`], where the position of the entry before is at hand.
-    pub(crate) fn following(&self, before: &Position<B>, index: u64) -> Position<B>
+    pub(crate) fn next_position(&self, before: &Position<B>, index: u64) -> Position<B>
         requires counts { is_of (pair_of self.now) before.now ≡ true }
         requires own { has_own_entry B.shape (layout_of self.now) before.now ≡ true }
         requires before { entry_index B.shape B.POINTS (layout_of self.now) (pair_of self.now) before.now + 1 ≡ index }
@@ -165,8 +165,8 @@ impl<B: Geometry> Numbering<B> {
         ensures own { has_own_entry B.shape (layout_of self.now) result ≡ true }
     {
         match self {
-            Numbering::Full(pair) => pair.following(before, index),
-            Numbering::Classes(classes) => classes.following(before, index),
+            Numbering::Full(pair) => pair.next_position(before, index),
+            Numbering::Classes(classes) => classes.next_position(before, index),
         }
     }
 }
@@ -202,7 +202,7 @@ impl<'a, B: Geometry> Successors<'a, B> {
         requires start { has (position_before self.now).position.own from ≡ true }
         requires end { to < B.POINTS }
         requires vacant { not (has (position_before self.now).position.own to || has (position_before self.now).position.other to) ≡ true }
-        ensures { result ≡ entry_index B.shape B.POINTS (layout_after self.now) (position_before self.now).pair (moved_on (position_before self.now).position from to) }
+        ensures { result ≡ entry_index B.shape B.POINTS (layout_after self.now) (position_before self.now).pair (move_sides (position_before self.now).position from to) }
     {
         match self {
             Successors::Full(indices) => indices.index(from, to),
@@ -223,7 +223,7 @@ pub(crate) enum Predecessors<'a, B: Geometry> {
 
 /// Adds the entries from which the quiet moves to `to` from each of `sources` led to the entry of
 /// the position of `entries`: see [`Predecessors::add`].
-fn add_carried<B: Geometry>(
+fn add_predecessor<B: Geometry>(
     entries: &PredecessorEntries<'_, B>,
     to: u8,
     sources: Points,
@@ -232,7 +232,7 @@ fn add_carried<B: Geometry>(
     requires end { has entries.now.position.other to ≡ true }
     requires sources { (p : ℕ) → has sources p ≡ true → (p < B.POINTS) × (not (has entries.now.position.own p || has entries.now.position.other p) ≡ true) }
     ensures { OnOk result (out.new.items ≡ out.old.items
-        ++ entries_leading Layout.Classes B.shape B.POINTS entries.now.pair entries.now.position (map (λ u. move u to None) (members sources))) }
+        ++ predecessors_of Layout.Classes B.shape B.POINTS entries.now.pair entries.now.position (map (λ u. move u to None) (members sources))) }
 {
     for from in sources.iter() {
         entries.add(from, to, out)?;
@@ -252,11 +252,11 @@ impl<'a, B: Geometry> Predecessors<'a, B> {
         requires sources { (p : ℕ) → has sources p ≡ true
             → (p < B.POINTS) × (not (has (position_after self.now).position.own p || has (position_after self.now).position.other p) ≡ true) }
         ensures { OnOk result (out.new.items ≡ out.old.items
-            ++ entries_leading (layout_before self.now) B.shape B.POINTS (position_after self.now).pair (position_after self.now).position (map (λ u. move u to None) (members sources))) }
+            ++ predecessors_of (layout_before self.now) B.shape B.POINTS (position_after self.now).pair (position_after self.now).position (map (λ u. move u to None) (members sources))) }
     {
         match self {
             Predecessors::Full(indices) => indices.add(to, sources, out),
-            Predecessors::Classes(entries) => add_carried(entries, to, sources, out),
+            Predecessors::Classes(entries) => add_predecessor(entries, to, sources, out),
         }
     }
 }

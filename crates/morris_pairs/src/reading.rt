@@ -17,7 +17,7 @@ use sha2::{Digest, Sha256};
 use std::alloc::Global;
 
 /// How many bytes are read at a time, at most.
-const PIECE: usize = 4096;
+const CHUNK: usize = 4096;
 
 /// How many bytes a digest has.
 pub const DIGEST: usize = 32;
@@ -137,13 +137,13 @@ fn read_codes<S: Source>(
     ensures room { IfOk result (λ codes. vec_capacity codes ≡ count) }
 {
     let mut codes = Vec::with_capacity(alloc, count)?;
-    let mut buffer = [0; PIECE];
+    let mut buffer = [0; CHUNK];
     while codes.len() < count {
-        let wanted = PIECE.min(2 * (count - codes.len()));
-        let piece = &mut buffer[..wanted];
-        read_whole(source, piece)?;
-        hasher.update(&*piece);
-        push_codes(&mut codes, piece);
+        let wanted = CHUNK.min(2 * (count - codes.len()));
+        let chunk = &mut buffer[..wanted];
+        read_whole(source, chunk)?;
+        hasher.update(&*chunk);
+        push_codes(&mut codes, chunk);
     }
     Ok(codes)
 }

@@ -6,11 +6,11 @@ ghost use Rattle.morris_pairs.specs.Agreement.{Agrees, IsFirstToDiffer};
 ghost use Rattle.morris_pairs.specs.Entries.{entry_count};
 
 use crate::agreeing::first_in;
+use crate::chunks::Claim;
 use crate::graph::PairGraph;
 use crate::layout::Layout;
 use crate::numbering::Numbering;
 use crate::raw::Raw;
-use crate::sharing::Claim;
 use morris_board::board::{Board, Geometry};
 use morris_index::class_pair::ClassPair;
 use morris_wave::Watch;
@@ -18,7 +18,7 @@ use std::alloc::Global;
 use std::thread::Threads;
 
 /// How many entries a round has, after which it is told how many are done: a multiple of
-/// [`STRETCH`](crate::sharing::STRETCH), and so many that it doesn't matter that the workers wait
+/// [`CHUNK_ENTRIES`](crate::sharing::STRETCH), and so many that it doesn't matter that the workers wait
 /// for one another at its end.
 const ROUND: u64 = 4_194_304;
 
@@ -55,7 +55,7 @@ impl<'a, B: Board, R: Threads + Sync> Claim<'a, B, R> {
 
     /// Whether all entries are known to agree of a table by these classes, by those of all
     /// positions that face one: they are all entries.
-    fn faces_agree<W: Watch>(&self, classes: &'a ClassPair<B>, watch: &mut W) -> bool
+    fn group_agrees<W: Watch>(&self, classes: &'a ClassPair<B>, watch: &mut W) -> bool
         requires classes { classes.now ≡ self.now.raw.now.pair }
         requires layout { self.now.raw.now.layout ≡ Layout.Classes }
         ensures agree { result ≡ true → (k : ℕ) → k < entry_count B.shape B.POINTS self.now.raw.now.layout self.now.raw.now.pair → Agrees B.shape self.now.raw.now k }
@@ -82,7 +82,7 @@ impl<'a, B: Board, R: Threads + Sync> Claim<'a, B, R> {
     {
         match self.raw.numbering() {
             Numbering::Full(_) => false,
-            Numbering::Classes(classes) => self.faces_agree(classes, watch),
+            Numbering::Classes(classes) => self.group_agrees(classes, watch),
         }
     }
 }

@@ -9,7 +9,7 @@ ghost use Rattle.std.specs.Prelude.{◌≡◌, ℕ, ◌+◌, ◌<◌, ◌≤◌,
 ghost use Rattle.morris_board.specs.Positions.{IsPosition};
 ghost use Rattle.morris_board.specs.Sets.{count_of};
 ghost use Rattle.morris_index.specs.ClassPairs.{class_half_size};
-ghost use Rattle.morris_index.specs.Facing.{turned};
+ghost use Rattle.morris_index.specs.ByOpponent.{swap_sides};
 ghost use Rattle.morris_index.specs.Pairs.{IsPair, is_of};
 ghost use Rattle.morris_wave.specs.Blocks.{BlockState};
 ghost use Rattle.morris_wave.specs.Exits.{exits_of};
@@ -17,23 +17,23 @@ ghost use Rattle.morris_wave.specs.Solving.{exits_at};
 ghost use Rattle.morris_wave.specs.Values.{HasCode, IsTooDeep};
 ghost use Rattle.morris_pairs.specs.Entries.{entry_count};
 ghost use Rattle.morris_pairs.specs.Graphs.{HasValuesIn};
-ghost use Rattle.morris_pairs.specs.KeptCaptures.{AreKept, codes_facing};
-ghost use Rattle.morris_pairs.specs.Headline.{IsBlockIn, TellsIn};
+ghost use Rattle.morris_pairs.specs.CaptureCaches.{IsCaptureCache, codes_by_opponent};
+ghost use Rattle.morris_pairs.specs.Headline.{IsBlockIn, StatesIn};
 ghost use Rattle.morris_pairs.specs.Known.{IsBeyondCodes};
-ghost use Rattle.morris_pairs.specs.Orders.{Order, Rows, is_ahead, index_in, own_in};
+ghost use Rattle.morris_pairs.specs.Orders.{Order, Rows, is_first_half, index_in, own_in};
 ghost use Rattle.morris_pairs.specs.RowGraphs.{AreCodesFrom, AreNodesFrom};
 ghost use Rattle.morris_pairs.specs.PairNets.{level_in, level_of, net_at};
 ghost use Rattle.morris_pairs.specs.Shelves.{first_missing};
-ghost use Rattle.morris_pairs.specs.Sweeping.{needed_by, is_of_graph};
+ghost use Rattle.morris_pairs.specs.Sweeping.{needs_in, is_of_graph};
 
 use crate::build_fault::BuildFault;
+use crate::capture_cache::CaptureCache;
 use crate::exact::Exact;
 use crate::graph::PairGraph;
-use crate::kept_captures::KeptCaptures;
 use crate::layout::Layout;
 use crate::levels::PairLevels;
 use crate::numbering::Numbering;
-use crate::row_back::{list_before_rows, row_ahead};
+use crate::row_predecessors::{first_half_row, list_predecessors_by_rows};
 use crate::row_reading::read_rows;
 use crate::rows::Row;
 use crate::set_moves::SetTable;
@@ -81,7 +81,7 @@ impl<'a, B: Geometry> Model for RowGraph<'a, B> {
 }
 
 /// So many nodes are found before their codes are read.
-const PIECE: usize = 256;
+const CHUNK: usize = 256;
 
 impl<'a, B: Geometry> RowGraph<'a, B> {
     /// The graph of a pair of two different numbers by rows, over a set of tables, which may be of
@@ -98,7 +98,7 @@ impl<'a, B: Geometry> RowGraph<'a, B> {
         pair: Pair<B>,
     ) -> Result<RowGraph<'a, B>, BuildFault<B>>
         requires two { pair.lesser < pair.greater }
-        ensures needs { MatchResult result (λ _. first_missing tables.now pair ≡ None) (λ fault. needed_by fault ≡ first_missing tables.now pair) }
+        ensures needs { MatchResult result (λ _. first_missing tables.now pair ≡ None) (λ fault. needs_in fault ≡ first_missing tables.now pair) }
         // Nothing but a table or memory can be wanting.
         ensures alone { IfErr result (λ fault. is_of_graph fault ≡ true) }
         ensures pair { IfOk result (λ graph. graph ≡ pair) }
@@ -106,7 +106,7 @@ impl<'a, B: Geometry> RowGraph<'a, B> {
         ensures deep { OnOk result ((o : Order) → (IsTooDeep (net_at B.shape (level_in o pair)) ↔ IsBeyondCodes B.shape pair)) }
         // What the blocks of the graph hold, at any wave and whatever is applied, is the game's,
         // also where a table is missing.
-        ensures blocks { (o : Order) (s : BlockState) → IsBlockIn B.shape o pair s → TellsIn B.shape o pair s }
+        ensures blocks { (o : Order) (s : BlockState) → IsBlockIn B.shape o pair s → StatesIn B.shape o pair s }
     {
         // The proof learns here that the numbers of stones are those of a pair.
         let greater = pair.greater();
@@ -126,15 +126,15 @@ impl<'a, B: Geometry> RowGraph<'a, B> {
     }
 
     /// The position with the same stones in which the other player is to move.
-    fn turned(&self, position: &Position<B>) -> Position<B>
+    fn swap_sides(&self, position: &Position<B>) -> Position<B>
         requires { is_of self.now position.now ≡ true }
-        ensures value { result ≡ turned position.now }
+        ensures value { result ≡ swap_sides position.now }
         ensures lawful { IsPosition B.shape position.now }
     {
         // The proof learns here that the numbers of stones are those of a pair.
         let _ = self.classes.pair();
         match Position::new(position.other(), position.own()) {
-            Ok(turned) => turned,
+            Ok(swapped) => swapped,
             Err(_) => unreachable!(),
         }
     }
@@ -152,14 +152,14 @@ impl<'a, B: Geometry> RowGraph<'a, B> {
         if node < split {
             self.classes.position(node)
         } else {
-            self.turned(&self.classes.position(node - split))
+            self.swap_sides(&self.classes.position(node - split))
         }
     }
 
     /// The node of a position of the pair in which the opponent has more stones.
-    fn node_behind(&self, position: &Position<B>) -> u64
+    fn second_half_node(&self, position: &Position<B>) -> u64
         requires counts { is_of self.now position.now ≡ true }
-        requires behind { is_ahead position.now ≡ false }
+        requires second_half { is_first_half position.now ≡ false }
         ensures value { result ≡ index_in B.shape B.POINTS Rows self.now position.now }
         ensures below { result < (net_at B.shape (level_in Rows self.now)).size }
     {
@@ -170,18 +170,18 @@ impl<'a, B: Geometry> RowGraph<'a, B> {
 
     /// Reads the nodes of the positions of a row of entries of the first half with their sides
     /// turned, from the first of them on, as many as there is room for. It says how many these are.
-    fn read_turned_row(
+    fn read_swapped_row(
         &self,
         entries: &EntryRow<B>,
-        kept: &mut KeptCaptures,
+        cache: &mut CaptureCache,
         counts: &mut [u16],
         exits: &mut [Exits],
     ) -> usize
         requires pair { entries.now.pair ≡ self.now }
         requires greater { count_of entries.now.own ≡ self.now.greater }
         requires room { length exits.old ≡ length counts.old }
-        requires kept { AreKept (codes_facing B.shape) kept.old }
-        ensures kept { AreKept (codes_facing B.shape) kept.new }
+        requires cache { IsCaptureCache (codes_by_opponent B.shape) cache.old }
+        ensures cache { IsCaptureCache (codes_by_opponent B.shape) cache.new }
         ensures many { result ≡ min entries.now.len (length counts.old) }
         ensures counts { (k : ℕ) → k < result → slice_index counts.new k
             ≡ length ((net_at B.shape (level_in Rows self.now)).quiet (class_half_size B.shape B.POINTS self.now.greater self.now.lesser + (entries.now.first + k))) }
@@ -190,10 +190,12 @@ impl<'a, B: Geometry> RowGraph<'a, B> {
     {
         let many = entries.len().min(counts.len());
         for place in 0..many {
-            let position = self.turned(&entries.position(place));
+            let position = self.swap_sides(&entries.position(place));
             let moves = self.moves.moves_of::<B>(position.own());
             counts[place] = moves.quiet_moves(&position);
-            exits[place] = self.graph.exits_by_facing(&position, moves.closing, kept);
+            exits[place] = self
+                .graph
+                .exits_by_opponent(&position, moves.closing, cache);
         }
         many
     }
@@ -201,7 +203,7 @@ impl<'a, B: Geometry> RowGraph<'a, B> {
     /// Reads the nodes of the second half from the one of the entry `first` on, which is of the
     /// first half, as many as there is room for. Where memory is refused, nothing is kept from node
     /// to node.
-    fn read_turned(&self, first: u64, counts: &mut [u16], exits: &mut [Exits])
+    fn read_swapped(&self, first: u64, counts: &mut [u16], exits: &mut [Exits])
         requires room { length exits.old ≡ length counts.old }
         requires inside { first + length counts.old ≤ class_half_size B.shape B.POINTS self.now.greater self.now.lesser }
         ensures counts { (k : ℕ) → k < length counts.old → slice_index counts.new k
@@ -211,13 +213,13 @@ impl<'a, B: Geometry> RowGraph<'a, B> {
     {
         // The proof learns here that the entries are few.
         let _ = self.classes.first_half();
-        let mut kept = KeptCaptures::new(self.alloc);
+        let mut cache = CaptureCache::new(self.alloc);
         let mut done = 0;
         while done < counts.len() {
-            let entries = row_ahead(&self.classes, first + done as u64);
-            done += self.read_turned_row(
+            let entries = first_half_row(&self.classes, first + done as u64);
+            done += self.read_swapped_row(
                 &entries,
-                &mut kept,
+                &mut cache,
                 &mut counts[done..],
                 &mut exits[done..],
             );
@@ -228,7 +230,7 @@ impl<'a, B: Geometry> RowGraph<'a, B> {
     /// stones, from the first of them on, as many as there is room for. It says how many these are.
     fn list_nodes(&self, entries: &EntryRow<B>, nodes: &mut [u64]) -> usize
         requires pair { entries.now.pair ≡ self.now }
-        requires behind { class_half_size B.shape B.POINTS self.now.greater self.now.lesser ≤ entries.now.first }
+        requires second_half { class_half_size B.shape B.POINTS self.now.greater self.now.lesser ≤ entries.now.first }
         ensures many { result ≡ min entries.now.len (length nodes.old) }
         ensures nodes { AreNodesFrom B.shape B.POINTS self.now entries.now.first result nodes.new }
         ensures below { (k : ℕ) → k < result → slice_index nodes.new k < (net_at B.shape (level_in Rows self.now)).size }
@@ -237,23 +239,23 @@ impl<'a, B: Geometry> RowGraph<'a, B> {
         let _ = self.classes.pair();
         let many = entries.len().min(nodes.len());
         for place in 0..many {
-            nodes[place] = self.node_behind(&entries.position(place));
+            nodes[place] = self.second_half_node(&entries.position(place));
         }
         many
     }
 
     /// Writes the codes of a row of entries of the second half by classes, from the first of them
-    /// on, as many as there is room for, up to a [`PIECE`]. It says how many these are. All nodes
+    /// on, as many as there is room for, up to a [`CHUNK`]. It says how many these are. All nodes
     /// are found first, so that their codes are read side by side.
     fn fill_row(&self, codes: &[u16], entries: &EntryRow<B>, part: &mut [u16]) -> usize
         requires pair { entries.now.pair ≡ self.now }
-        requires behind { class_half_size B.shape B.POINTS self.now.greater self.now.lesser ≤ entries.now.first }
+        requires second_half { class_half_size B.shape B.POINTS self.now.greater self.now.lesser ≤ entries.now.first }
         requires codes { length codes.now ≡ (net_at B.shape (level_in Rows self.now)).size }
-        ensures many { result ≡ min entries.now.len (min PIECE (length part.old)) }
+        ensures many { result ≡ min entries.now.len (min CHUNK (length part.old)) }
         ensures each { AreCodesFrom B.shape B.POINTS self.now codes.now entries.now.first result part.new }
     {
-        let mut room = [0; PIECE];
-        let nodes = &mut room[..PIECE.min(part.len())];
+        let mut room = [0; CHUNK];
+        let nodes = &mut room[..CHUNK.min(part.len())];
         let many = self.list_nodes(entries, nodes);
         for place in 0..many {
             part[place] = codes[nodes[place] as usize];
@@ -284,18 +286,22 @@ impl<'a, B: Geometry> RowGraph<'a, B> {
     ///
     /// # Errors
     /// [`AllocError`] where memory for the codes of the second half is refused.
-    fn in_entry_order(&self, mut codes: Vec<u16>, behind: &[u16]) -> Result<Vec<u16>, AllocError>
+    fn in_entry_order(
+        &self,
+        mut codes: Vec<u16>,
+        second_half: &[u16],
+    ) -> Result<Vec<u16>, AllocError>
         requires len { vec_len codes ≡ (net_at B.shape (level_in Rows self.now)).size }
         requires codes { (i : ℕ) → i < (net_at B.shape (level_in Rows self.now)).size → HasCode (net_at B.shape (level_in Rows self.now)) i (slice_index codes.items i) }
-        requires rest { class_half_size B.shape B.POINTS self.now.greater self.now.lesser + length behind.now ≡ entry_count B.shape B.POINTS Layout.Classes self.now }
-        requires behind { AreCodesFrom B.shape B.POINTS self.now codes.items (class_half_size B.shape B.POINTS self.now.greater self.now.lesser) (length behind.now) behind.now }
+        requires rest { class_half_size B.shape B.POINTS self.now.greater self.now.lesser + length second_half.now ≡ entry_count B.shape B.POINTS Layout.Classes self.now }
+        requires second_half { AreCodesFrom B.shape B.POINTS self.now codes.items (class_half_size B.shape B.POINTS self.now.greater self.now.lesser) (length second_half.now) second_half.now }
         ensures len { IfOk result (λ made. vec_len made ≡ (net_at B.shape (level_of Layout.Classes self.now)).size) }
         ensures codes { IfOk result (λ made. (i : ℕ) → i < (net_at B.shape (level_of Layout.Classes self.now)).size → HasCode (net_at B.shape (level_of Layout.Classes self.now)) i (slice_index made.items i)) }
     {
         self.graph.values();
         codes.truncate(self.classes.first_half() as usize);
-        codes.reserve_exact(behind.len())?;
-        codes.extend_from_slice(behind)?;
+        codes.reserve_exact(second_half.len())?;
+        codes.extend_from_slice(second_half)?;
         Ok(codes)
     }
 }
@@ -307,7 +313,7 @@ impl<'a, B: Board> RowGraph<'a, B> {
     ///
     /// # Errors
     /// [`AllocError`] where memory for them is refused.
-    fn codes_behind<R: Threads + Sync>(
+    fn second_half_codes<R: Threads + Sync>(
         &self,
         rt: &R,
         alloc: Global,
@@ -319,12 +325,12 @@ impl<'a, B: Board> RowGraph<'a, B> {
         ensures each { IfOk result (λ made. AreCodesFrom B.shape B.POINTS self.now codes.now (class_half_size B.shape B.POINTS self.now.greater self.now.lesser) (vec_len made) made.items) }
     {
         let count = (self.classes.size() - self.classes.first_half()) as usize;
-        let mut behind = vec![in alloc; 0u16; count]?;
-        let stretch = count / workers.max(1) + 1;
+        let mut second_half = vec![in alloc; 0u16; count]?;
+        let chunk = count / workers.max(1) + 1;
         thread::for_each_chunk_mut(
             rt,
-            &mut behind,
-            stretch,
+            &mut second_half,
+            chunk,
             &|start, part|
                 requires { (length codes.now ≡ (net_at B.shape (level_in Rows self.now)).size)
                     × (class_half_size B.shape B.POINTS self.now.greater self.now.lesser + (start + length part.now) ≤ entry_count B.shape B.POINTS Layout.Classes self.now) }
@@ -332,7 +338,7 @@ impl<'a, B: Board> RowGraph<'a, B> {
                     (length part.entry.now) part.exit.now }
             { self.fill(codes, start, part) },
         );
-        Ok(behind)
+        Ok(second_half)
     }
 
     /// The table of the pair in layout `Classes`, of the codes of all nodes in order. So many
@@ -353,8 +359,8 @@ impl<'a, B: Board> RowGraph<'a, B> {
         ensures layout { IfOk result (λ table. table.layout ≡ Layout.Classes) }
         ensures pair { IfOk result (λ table. table.pair ≡ self.entry) }
     {
-        let behind = self.codes_behind(rt, alloc, &codes, workers)?;
-        let ordered = self.in_entry_order(codes, &behind)?;
+        let second_half = self.second_half_codes(rt, alloc, &codes, workers)?;
+        let ordered = self.in_entry_order(codes, &second_half)?;
         let numbering = Numbering::Classes(self.classes);
         Ok(self.graph.table_by(numbering, ordered))
     }
@@ -393,7 +399,7 @@ impl<'a, B: Board> Graph for RowGraph<'a, B> {
             return read_rows(self.alloc, &self.graph, &self.classes, first, counts, exits);
         }
         if split <= first {
-            return self.read_turned(first - split, counts, exits);
+            return self.read_swapped(first - split, counts, exits);
         }
         // Here the halves meet.
         for place in 0..counts.len() {
@@ -403,7 +409,7 @@ impl<'a, B: Board> Graph for RowGraph<'a, B> {
     }
 
     fn back(&self, i: u64, out: &mut Vec<u64>) -> Result<(), AllocError> {
-        list_before_rows(self.alloc, &self.classes, &self.sets, &[i], out)
+        list_predecessors_by_rows(self.alloc, &self.classes, &self.sets, &[i], out)
     }
 
     fn back_from(
@@ -412,6 +418,6 @@ impl<'a, B: Board> Graph for RowGraph<'a, B> {
         nodes: &[u64],
         out: &mut Vec<u64>,
     ) -> Result<(), AllocError> {
-        list_before_rows(alloc, &self.classes, &self.sets, nodes, out)
+        list_predecessors_by_rows(alloc, &self.classes, &self.sets, nodes, out)
     }
 }

@@ -3,13 +3,13 @@
 ghost use Rattle.std.specs.Prelude.{◌≡◌, ℕ, ◌+◌, ◌<◌, ◌≤◌, min, length, slice_index};
 ghost use Rattle.morris_index.specs.Pairs.{IsPair};
 ghost use Rattle.morris_pairs.specs.Entries.{entry_count};
-ghost use Rattle.morris_pairs.specs.KeptCaptures.{AreKept, codes_left};
+ghost use Rattle.morris_pairs.specs.CaptureCaches.{IsCaptureCache, codes_left};
 ghost use Rattle.morris_pairs.specs.PairNets.{level_of, net_at};
 ghost use Rattle.morris_wave.specs.Exits.{exits_of};
 ghost use Rattle.morris_wave.specs.Solving.{exits_at};
 
+use crate::capture_cache::CaptureCache;
 use crate::graph::PairGraph;
-use crate::kept_captures::KeptCaptures;
 use crate::layout::Layout;
 use crate::numbered_row::NumberedRow;
 use crate::rows::Row;
@@ -24,15 +24,15 @@ use std::alloc::Global;
 fn read_row<B: Geometry>(
     graph: &PairGraph<B>,
     entries: &EntryRow<B>,
-    kept: &mut KeptCaptures,
+    cache: &mut CaptureCache,
     counts: &mut [u16],
     exits: &mut [Exits],
 ) -> usize
     requires pair { entries.now.pair ≡ graph.now }
     requires lawful { IsPair B.POINTS graph.now }
     requires room { length exits.old ≡ length counts.old }
-    requires kept { AreKept (codes_left B.shape) kept.old }
-    ensures kept { AreKept (codes_left B.shape) kept.new }
+    requires cache { IsCaptureCache (codes_left B.shape) cache.old }
+    ensures cache { IsCaptureCache (codes_left B.shape) cache.new }
     ensures many { result ≡ min entries.now.len (length counts.old) }
     ensures counts { (k : ℕ) → k < result → slice_index counts.new k ≡ length ((net_at B.shape (level_of Layout.Classes graph.now)).quiet (entries.now.first + k)) }
     ensures exits { (k : ℕ) → k < result → exits_at exits.new k ≡ exits_of ((net_at B.shape (level_of Layout.Classes graph.now)).exits (entries.now.first + k)) }
@@ -45,7 +45,7 @@ fn read_row<B: Geometry>(
         // Written in place before any call: most entries have no capture, and are done with this.
         exits[place] = Exits::NONE;
         if row.may_capture::<B>(numbers) {
-            exits[place] = graph.exits_by_kept(&row.row, &entries.position(place), kept);
+            exits[place] = graph.exits_with_cache(&row.row, &entries.position(place), cache);
         }
     }
     many
@@ -71,14 +71,14 @@ pub(crate) fn read_rows<B: Geometry>(
 {
     // The proof learns here that the entries are few.
     let _ = classes.size();
-    let mut kept = KeptCaptures::new(alloc);
+    let mut cache = CaptureCache::new(alloc);
     let mut done = 0;
     while done < counts.len() {
         let entries = classes.row_from(first + done as u64);
         done += read_row(
             graph,
             &entries,
-            &mut kept,
+            &mut cache,
             &mut counts[done..],
             &mut exits[done..],
         );

@@ -1,7 +1,7 @@
 //! What the moves of the stones of one player are, whatever the opponent has.
 ghost use Rattle.std.specs.Prelude.{◌≡◌, ℕ, ◌<◌, ◌^◌, ◌&&◌, not, nat_lt, true, false, length, filter};
-ghost use Rattle.morris_board.specs.Sets.{has, count_of, is_within};
-ghost use Rattle.morris_moves.specs.Rules.{closes, goes, moved, moves_of};
+ghost use Rattle.morris_board.specs.Sets.{has, count_of, is_subset};
+ghost use Rattle.morris_moves.specs.Rules.{closes, goes, move_stone, moves_of};
 ghost use Rattle.morris_pairs.specs.PairNets.{is_quiet};
 ghost use Rattle.morris_pairs.specs.Rows.{is_closing_end, is_quiet_end, may_close, IsRow};
 
@@ -33,7 +33,7 @@ fn comers<B: Geometry>(own: Points, to: u8) -> Points
 {
     let stones = own.count();
     if 3 < stones {
-        own.common(B::neighbours(to))
+        own.intersection(B::neighbours(to))
     } else if stones == 3 {
         own
     } else {
@@ -46,10 +46,10 @@ fn comers<B: Geometry>(own: Points, to: u8) -> Points
 fn fillers(own: Points, to: u8, mill: Points) -> Points
     requires end { to < 32 }
     requires free { has own to ≡ false }
-    ensures { (u : ℕ) → has result u ≡ (has own u && is_within mill (moved own u to)) }
+    ensures { (u : ℕ) → has result u ≡ (has own u && is_subset mill (move_stone own u to)) }
 {
-    if mill.is_within(own.with(to)) {
-        own.less(mill)
+    if mill.is_subset(own.with(to)) {
+        own.difference(mill)
     } else {
         Points::EMPTY
     }
@@ -62,12 +62,12 @@ fn closers<B: Geometry>(own: Points, to: u8) -> Points
     ensures { (u : ℕ) → has result u ≡ (has own u && closes B.shape own u to) }
 {
     let (first, second) = B::mills_through(to);
-    fillers(own, to, first).joined(fillers(own, to, second))
+    fillers(own, to, first).union(fillers(own, to, second))
 }
 
 /// The stones that may come to `to`, where that is vacant: those whose move is quiet, and those
 /// whose move closes a mill.
-pub(crate) fn arriving<B: Geometry>(own: Points, to: u8) -> (Points, Points)
+pub(crate) fn arrivals_and_closers<B: Geometry>(own: Points, to: u8) -> (Points, Points)
     requires within { own < 2 ^ B.POINTS }
     requires end { to < B.POINTS }
     ensures quiet { (u : ℕ) → has result.0 u ≡ (has own u && is_quiet_end B.shape own u to) }
@@ -78,7 +78,7 @@ pub(crate) fn arriving<B: Geometry>(own: Points, to: u8) -> (Points, Points)
     }
     let comers = comers::<B>(own, to);
     let closers = closers::<B>(own, to);
-    (comers.less(closers), comers.common(closers))
+    (comers.difference(closers), comers.intersection(closers))
 }
 
 /// The points at which one stone more fills a mill of which the other points are `own`. None is
@@ -88,9 +88,9 @@ fn last_of_mills<B: Geometry>(own: Points) -> Points
 {
     let mut last = Points::EMPTY;
     for number in 0..B::MILLS {
-        let missing = B::mill(number).less(own);
-        if missing.rest() == Points::EMPTY {
-            last = last.joined(missing);
+        let missing = B::mill(number).difference(own);
+        if missing.without_first() == Points::EMPTY {
+            last = last.union(missing);
         }
     }
     last
@@ -102,8 +102,11 @@ pub(crate) fn closing_at<B: Geometry>(position: &Position<B>) -> Points
 {
     let own = position.own();
     let mut closing = Points::EMPTY;
-    for to in vacant(position).common(last_of_mills::<B>(own)).iter() {
-        let (_, closers) = arriving::<B>(own, to);
+    for to in vacant(position)
+        .intersection(last_of_mills::<B>(own))
+        .iter()
+    {
+        let (_, closers) = arrivals_and_closers::<B>(own, to);
         if closers != Points::EMPTY {
             closing = closing.with(to);
         }
@@ -123,7 +126,7 @@ impl Row {
         let mut closers = [0; 24];
         let mut closing = Points::EMPTY;
         for to in 0..B::POINTS {
-            let (quiet, shutting) = arriving::<B>(own, to);
+            let (quiet, shutting) = arrivals_and_closers::<B>(own, to);
             let count = u16::from(quiet.count());
             arrivals[to as usize] = count;
             all += count;

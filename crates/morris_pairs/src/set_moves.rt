@@ -2,7 +2,7 @@
 ghost use Rattle.std.specs.Prelude.{◌≡◌, ◌<◌, ◌^◌, length, filter, OnOk, IfOk};
 ghost use Rattle.morris_moves.specs.Rules.{moves_of};
 ghost use Rattle.morris_pairs.specs.PairNets.{is_quiet};
-ghost use Rattle.morris_pairs.specs.SetMoves.{IsSetKept, AreSetsKept};
+ghost use Rattle.morris_pairs.specs.SetMoves.{IsSetTabled, AreSetsTabled};
 
 use crate::numbered_row::SmallCounts;
 use crate::rows::Row;
@@ -30,7 +30,7 @@ impl SetMoves {
     pub(crate) fn of<B: Geometry>(own: Points) -> SetMoves
         requires { own < 2 ^ B.POINTS }
         ensures own { result.own ≡ own }
-        ensures kept { IsSetKept B.shape B.POINTS result }
+        ensures tabled { IsSetTabled B.shape B.POINTS result }
     {
         let row = Row::of::<B>(own);
         let mut arrivals = SmallCounts::NONE;
@@ -48,7 +48,7 @@ impl SetMoves {
     /// How many of the legal moves of a position with these own stones are quiet.
     pub(crate) fn quiet_moves<B: Geometry>(&self, position: &Position<B>) -> u16
         requires own { self.now.own ≡ position.now.own }
-        requires kept { IsSetKept B.shape B.POINTS self.now }
+        requires tabled { IsSetTabled B.shape B.POINTS self.now }
         ensures { result ≡ length (filter is_quiet (moves_of B.shape position.now)) }
     {
         self.all - self.arrivals.sum_over(position.other())
@@ -97,7 +97,7 @@ impl SetTable {
     /// # Errors
     /// [`AllocError`] where memory for it is refused.
     pub(crate) fn make<B: Geometry>(alloc: Global, count: u8) -> Result<SetTable, AllocError>
-        ensures { IfOk result (λ made. AreSetsKept B.shape B.POINTS made) }
+        ensures { IfOk result (λ made. AreSetsTabled B.shape B.POINTS made) }
     {
         let mut table = SetTable {
             starts: vec![in alloc; 0_usize; PARTS]?,
@@ -116,16 +116,16 @@ impl SetTable {
     /// Keeps what is to be kept of a set, behind the others.
     fn push<B: Geometry>(&mut self, set: Points) -> Result<(), AllocError>
         requires within { set < 2 ^ B.POINTS }
-        requires kept { AreSetsKept B.shape B.POINTS self.old }
-        ensures { OnOk result (AreSetsKept B.shape B.POINTS self.new) }
+        requires tabled { AreSetsTabled B.shape B.POINTS self.old }
+        ensures { OnOk result (AreSetsTabled B.shape B.POINTS self.new) }
     {
-        self.keep_place(set);
+        self.fill_place(set);
         self.sets.push(SetMoves::of::<B>(set))?;
         Ok(())
     }
 
     /// Keeps that a set is to stand behind those that are kept.
-    fn keep_place(&mut self, set: Points)
+    fn fill_place(&mut self, set: Points)
         ensures { self.new.sets ≡ self.old.sets }
     {
         let (low, high) = parts_of(set);
@@ -146,9 +146,9 @@ impl SetTable {
     /// What is kept of a set, and made anew where the set isn't kept.
     pub(crate) fn moves_of<B: Geometry>(&self, set: Points) -> SetMoves
         requires within { set < 2 ^ B.POINTS }
-        requires kept { AreSetsKept B.shape B.POINTS self.now }
+        requires tabled { AreSetsTabled B.shape B.POINTS self.now }
         ensures own { result.own ≡ set }
-        ensures kept { IsSetKept B.shape B.POINTS result }
+        ensures tabled { IsSetTabled B.shape B.POINTS result }
     {
         match self.sets.get(self.place_of(set)) {
             Some(moves) if moves.own == set => *moves,

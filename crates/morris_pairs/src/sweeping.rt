@@ -10,7 +10,7 @@ use crate::layout::Layout;
 use crate::shelf::Shelf;
 use morris_board::board::Board;
 use morris_index::pair::Pair;
-use morris_wave::{Unwatched, Watch, sweep_watched};
+use morris_wave::{NoProgress, Watch, sweep_watched};
 use std::alloc::Global;
 
 /// The exact table of a pair, over the tables of the pairs that it needs.
@@ -28,7 +28,7 @@ pub fn sweep_pair<B: Board>(
     ensures exact { IfOk result (IsBuilt B.shape Layout.Full pair) }
     ensures refused { IfErr result (IsUnswept B.shape shelf.now pair) }
 {
-    sweep_pair_watched(alloc, shelf, pair, &mut Unwatched)
+    sweep_pair_watched(alloc, shelf, pair, &mut NoProgress)
 }
 
 /// [`sweep_pair`], which tells `watch` of each wave as it begins (see [`Watch`]).

@@ -3,7 +3,7 @@ ghost use Rattle.std.specs.Prelude.{◌≡◌, ◌≢◌, ◌+◌, ◌/◌, ◌%
 ghost use Rattle.std.specs.Option.{option_copied};
 ghost use Rattle.morris_index.specs.Pairs.{Counts, IsPair};
 ghost use Rattle.morris_pairs.specs.Tables.{IsTable};
-ghost use Rattle.morris_pairs.specs.Shelves.{AreTables, first_missing, has_place, kept_from, place_of, table_on};
+ghost use Rattle.morris_pairs.specs.Shelves.{AreTables, first_missing, has_place, retained_from, place_of, table_on};
 
 use crate::exact::Exact;
 use crate::shelf::Needs;
@@ -87,7 +87,7 @@ impl<B: Geometry> TableSet<B> {
 
     /// Lets the tables go of all pairs that have fewer stones together than this.
     pub fn let_go(&mut self, stones: u8)
-        ensures { (c : Counts) → table_on self.new c ≡ kept_from stones self.old c }
+        ensures { (c : Counts) → table_on self.new c ≡ retained_from stones self.old c }
     {
         for place in 0..PLACES {
             let (greater, lesser) = (3 + place / 7, 3 + place % 7);

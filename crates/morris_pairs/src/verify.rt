@@ -52,7 +52,7 @@ impl<B: Board> Raw<B> {
             Err(needs) => return Err((self, VerifyFault::Needs(needs))),
         };
         let differing = first_in(&graph, &self, 0, self.len());
-        judged(self, differing)
+        judge(self, differing)
     }
 
     /// [`verify`](Raw::verify) over a set of tables, by so many workers, 1 to 64, who share the
@@ -85,13 +85,13 @@ impl<B: Board> Raw<B> {
             Err(needs) => return Err((self, VerifyFault::Needs(needs))),
         };
         let found = first_by(rt, alloc, &graph, &self, workers, watch);
-        judged(self, found)
+        judge(self, found)
     }
 }
 
 /// The exact table with these codes, or else the first entry that doesn't agree, once that is
 /// known.
-fn judged<B: Geometry>(
+fn judge<B: Geometry>(
     raw: Raw<B>,
     differing: Option<u64>,
 ) -> Result<Exact<B>, (Raw<B>, VerifyFault<B>)>

@@ -16,7 +16,7 @@ use morris_board::streams::{Sink, put};
 use sha2::{Digest, Sha256};
 
 /// How many bytes are written at a time, at most.
-const PIECE: usize = 4096;
+const CHUNK: usize = 4096;
 
 /// Writes the file of a table, in pieces of several KiB: version 1 in layout `Full`, version 2 in
 /// layout `Classes`. It takes no memory.
@@ -72,13 +72,13 @@ fn put_codes<B: Geometry, S: Sink>(
     ensures counted { CountsFailure (S.failures sink.old) (S.failures sink.new) result }
     ensures hashed { OnOk result ((before : List ℕ) → Holds256 hasher.old before → Holds256 hasher.new (before ++ code_bytes table.now.codes)) }
 {
-    let mut piece = [0; PIECE];
+    let mut chunk = [0; CHUNK];
     let count = table.len();
     let mut first = 0;
     let mut sent = sent;
     while first < count {
-        let codes = (count - first).min(PIECE as u64 / 2);
-        let bytes = &mut piece[..2 * codes as usize];
+        let codes = (count - first).min(CHUNK as u64 / 2);
+        let bytes = &mut chunk[..2 * codes as usize];
         copy_codes(table, first, bytes);
         hasher.update(&*bytes);
         sent = put(sink, sent, bytes)?;
@@ -87,19 +87,19 @@ fn put_codes<B: Geometry, S: Sink>(
     Ok(sent)
 }
 
-/// Fills `piece` with the codes of a table from the entry `first` on, as its file has them: two
-/// bytes each, the high one first. The bytes of `piece` are an even number, and the table has the
+/// Fills `chunk` with the codes of a table from the entry `first` on, as its file has them: two
+/// bytes each, the high one first. The bytes of `chunk` are an even number, and the table has the
 /// entries.
-pub fn copy_codes<B: Geometry>(table: &Exact<B>, first: u64, piece: &mut [u8])
-    requires even { length piece.old % 2 ≡ 0 }
-    requires inside { 2 * first + length piece.old ≤ 2 * length table.now.codes }
-    ensures { piece.new ≡ code_bytes (take (length piece.old / 2) (drop first table.now.codes)) }
+pub fn copy_codes<B: Geometry>(table: &Exact<B>, first: u64, chunk: &mut [u8])
+    requires even { length chunk.old % 2 ≡ 0 }
+    requires inside { 2 * first + length chunk.old ≤ 2 * length table.now.codes }
+    ensures { chunk.new ≡ code_bytes (take (length chunk.old / 2) (drop first table.now.codes)) }
 {
     // The proof learns here how many entries there are.
     let _ = table.len();
-    for i in 0..piece.len() / 2 {
+    for i in 0..chunk.len() / 2 {
         let [high, low] = table.code(first + i as u64).to_be_bytes();
-        piece[2 * i] = high;
-        piece[2 * i + 1] = low;
+        chunk[2 * i] = high;
+        chunk[2 * i + 1] = low;
     }
 }

@@ -7,10 +7,10 @@ use Rattle.std.proofs.lemmas.List.Elements.{Contains-push}
 use Rattle.morris_board.specs.Sets.{count_of}
 use Rattle.morris_board.specs.Boards.{Shape}
 use Rattle.morris_board.specs.Positions.{Sides, IsPosition}
-use Rattle.morris_moves.specs.declared.step.Move.{Move}
+use Rattle.morris_moves.specs.declared.game_move.Move.{Move}
 use Rattle.morris_moves.specs.Rules.{moves_of, result_of}
 use Rattle.morris_moves.specs.Values.{IsLostIn}
-use Rattle.morris_index.specs.Pairs.{Counts, IsPair, pair_of, ordered, is_of, below_of}
+use Rattle.morris_index.specs.Pairs.{Counts, IsPair, pair_of, sort_counts, is_of, below_of}
 use Rattle.morris_index.proofs.BelowLaws.{below_of-last, below_of-needed}
 use Rattle.morris_index.proofs.ResultLaws.{pair_of-is_of}
 use Rattle.morris_pairs.specs.Shelves.{Stored, table_on, HasAllBelow}
@@ -25,7 +25,7 @@ use Rattle.morris_probe.specs.Probing.{missing_table, without_table}
 two_stones : (s : Sides) → pair_of s ≡ None → count_of s.own ≡ 2
 two_stones s e = elim (cases_eq (count_of s.own) 2) [
   | inl two ↦ two
-  | inr other ↦ absurd (none-some (ordered (count_of s.own) (count_of s.other)) (sym e ∙ rw (ne_eqb (count_of s.own) 2 other) refl))
+  | inr other ↦ absurd (none-some (sort_counts (count_of s.own) (count_of s.other)) (sym e ∙ rw (ne_eqb (count_of s.own) 2 other) refl))
 ]
 
 -- has lost

@@ -3,7 +3,7 @@ use Rattle.std.proofs.Common.{◌≡◌, ◌+◌, ◌<◌, ℕ, List, [], ◌∷
 use Rattle.std.specs.List.{flat_map}
 use Rattle.std.proofs.lemmas.List.{take_more}
 use Rattle.std.proofs.lemmas.Grind.{flat_map-append}
-use Rattle.morris_moves.specs.declared.step.Move.{Move}
+use Rattle.morris_moves.specs.declared.game_move.Move.{Move}
 use Rattle.morris_probe.specs.Lines.{move_line}
 
 -- the lines of the moves up to this one are those of the moves before it, and its own

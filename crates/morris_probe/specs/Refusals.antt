@@ -5,10 +5,10 @@ use Rattle.morris_probe.specs.declared.fault.ProbeFault.{ProbeFault}
 use Rattle.morris_probe.specs.declared.fault.ProbeFault.TheVariants.{Needs, Memory, Write}
 
 -- the pair whose table is wanted, if that is the reason
-abbrev pub needed_by : {B : Type 0} → ProbeFault B → Option Counts
-needed_by (Needs needs) = Some needs.0
-needed_by Memory = None
-needed_by (Write sent) = None
+abbrev pub needs_in : {B : Type 0} → ProbeFault B → Option Counts
+needs_in (Needs needs) = Some needs.0
+needs_in Memory = None
+needs_in (Write sent) = None
 
 -- whether the reason is a write that failed
 abbrev pub is_write : {B : Type 0} → ProbeFault B → Bool

@@ -1,19 +1,19 @@
 //! The best moves of a position.
 ghost use Rattle.std.specs.Prelude.{◌≡◌, ◌↔◌, ◌<◌, ◌≤◌, ◌+◌, ◌*◌, None, Some, false, IsTrue, length, IfErr, IfOk, MatchResult};
 ghost use Rattle.std.specs.List.{Contains};
-ghost use Rattle.morris_moves.specs.declared.step.Move.{Move};
+ghost use Rattle.morris_moves.specs.declared.game_move.Move.{Move};
 ghost use Rattle.morris_moves.specs.Rules.{moves_of, result_of};
 ghost use Rattle.morris_pairs.specs.Codes.{IsValue};
 ghost use Rattle.morris_probe.specs.Probing.{missing_table};
 ghost use Rattle.morris_probe.specs.Best.{after_best, AreBest};
-ghost use Rattle.morris_probe.specs.Refusals.{needed_by, is_write};
+ghost use Rattle.morris_probe.specs.Refusals.{needs_in, is_write};
 
 use crate::fault::ProbeFault;
 use crate::value::value;
 use morris_board::board::Geometry;
 use morris_board::position::Position;
+use morris_moves::game_move::Move;
 use morris_moves::rules::{moves, play};
-use morris_moves::step::Move;
 use morris_pairs::shelf::Shelf;
 use morris_pairs::value::Value;
 use std::alloc::{AllocError, Global};
@@ -35,7 +35,7 @@ pub fn best<B: Geometry>(
     ensures best { IfOk result (λ best. AreBest B.shape position.now best.items) }
     ensures some { IfOk result (λ best. (m : Move) → Contains (moves_of B.shape position.now) m → 0 < length best.items) }
     ensures needs { MatchResult result (λ _. missing_table shelf.now position.now ≡ None)
-        (λ fault. needed_by fault ≡ missing_table shelf.now position.now) }
+        (λ fault. needs_in fault ≡ missing_table shelf.now position.now) }
     ensures unwritten { IfErr result (λ fault. is_write fault ≡ false) }
 {
     let found = value(shelf, position)?;

@@ -12,7 +12,7 @@ use morris_board::board::Geometry;
 use morris_board::position::Position;
 use morris_board::streams::Sink;
 use morris_board::streams::printer::Printer;
-use morris_moves::step::Move;
+use morris_moves::game_move::Move;
 use morris_pairs::value::Value;
 
 /// The text of a position.

@@ -2,7 +2,7 @@
 ghost use Rattle.std.specs.Prelude.{◌≡◌, ◌-◌, ◌^◌, ◌<◌, None, MatchResult};
 ghost use Rattle.std.specs.List.{flat_map};
 ghost use Rattle.morris_probe.specs.Probing.{missing_table};
-ghost use Rattle.morris_probe.specs.Refusals.{needed_by, CountsWrites};
+ghost use Rattle.morris_probe.specs.Refusals.{needs_in, CountsWrites};
 ghost use Rattle.morris_probe.specs.Lines.{move_line};
 ghost use Rattle.morris_probe.specs.Reports.{Reports};
 ghost use Rattle.morris_board.specs.Printers.{Takes};
@@ -16,7 +16,7 @@ use morris_board::position::Position;
 use morris_board::streams::Sink;
 use morris_board::streams::printed::{Printed, send};
 use morris_board::streams::printer::Printer;
-use morris_moves::step::Move;
+use morris_moves::game_move::Move;
 use morris_pairs::shelf::Shelf;
 use morris_pairs::value::Value;
 use std::alloc::Global;
@@ -39,7 +39,7 @@ pub fn report<B: Geometry, S: Sink>(
     requires failures { S.failures sink.old < 2 ^ 64 - 1 }
     ensures answer { Reports B.shape position.now (S.contents sink.old) (S.contents sink.new) result }
     ensures needs { MatchResult result (λ _. missing_table shelf.now position.now ≡ None)
-        (λ fault. needed_by fault ≡ missing_table shelf.now position.now) }
+        (λ fault. needs_in fault ≡ missing_table shelf.now position.now) }
     ensures counted { CountsWrites (S.failures sink.old) (S.failures sink.new) result }
 {
     let found = value(shelf, position)?;

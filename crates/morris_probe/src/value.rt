@@ -2,7 +2,7 @@
 ghost use Rattle.std.specs.Prelude.{◌≡◌, None, Some, Ok, OnOk, IfOk, MatchResult};
 ghost use Rattle.std.specs.List.{Contains};
 ghost use Rattle.morris_board.specs.Sets.{count_of};
-ghost use Rattle.morris_moves.specs.declared.step.Move.{Move};
+ghost use Rattle.morris_moves.specs.declared.game_move.Move.{Move};
 ghost use Rattle.morris_moves.specs.Rules.{moves_of, result_of};
 ghost use Rattle.morris_pairs.specs.Codes.{IsValue};
 ghost use Rattle.morris_probe.specs.Probing.{missing_table};

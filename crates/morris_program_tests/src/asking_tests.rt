@@ -8,7 +8,7 @@ use morris_files::reason::Reason;
 use morris_jobs::fault::Fault;
 use morris_pairs::layout::Layout;
 use morris_queries::library::Library;
-use morris_queries::lookup::lookup_texts;
+use morris_queries::lookup::lookup_strings;
 use morris_queries::show::Show;
 use morris_queries::system::SystemLibrary;
 use std::fs::File;
@@ -22,13 +22,13 @@ use std::thread::Threads;
 pub(crate) fn assert_asked<L: Library>(
     rt: &(impl Abort + AllocGlobal),
     held: &mut L,
-    texts: &[&str],
+    strings: &[&str],
     show: Show,
     wanted: &str,
     faults: u64,
 ) {
     let mut output = IntoWrite::new(Vec::new(rt.alloc()));
-    let refused = lookup_texts(rt.alloc(), "grid", held, texts, show, &mut output);
+    let refused = lookup_strings(rt.alloc(), "grid", held, strings, show, &mut output);
     holds(rt, refused == Ok(faults), wanted);
     holds(
         rt,
@@ -112,8 +112,8 @@ fn has_line(text: &[u8], line: &str) -> (usize, bool) {
 /// the text after the last line feed is empty.
 fn assert_moves_shown<L: Library>(rt: &(impl Abort + AllocGlobal), held: &mut L) {
     let mut output = IntoWrite::new(Vec::new(rt.alloc()));
-    let texts = ["XX..OO.OX"];
-    let refused = lookup_texts(rt.alloc(), "grid", held, &texts, Show::Moves, &mut output);
+    let strings = ["XX..OO.OX"];
+    let refused = lookup_strings(rt.alloc(), "grid", held, &strings, Show::Moves, &mut output);
     holds(rt, refused == Ok(0), "an answer");
     let text = output.into_inner();
     let has = |line| has_line(text.as_slice(), line) == (13, true);
@@ -181,12 +181,12 @@ fn assert_refused<R: Files<File = File> + AllocGlobal + Abort>(
 ) {
     let mut folder = SystemLibrary::new(rt, path);
     let mut output = IntoWrite::new(Vec::new(rt.alloc()));
-    let texts = ["XXXOOO..."];
-    let answer = lookup_texts(
+    let strings = ["XXXOOO..."];
+    let answer = lookup_strings(
         rt.alloc(),
         board,
         &mut folder,
-        &texts,
+        &strings,
         Show::Best,
         &mut output,
     );

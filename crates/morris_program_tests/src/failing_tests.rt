@@ -8,7 +8,7 @@ use morris_game_tests::memory::MemoryFolder;
 use morris_jobs::fault::Fault;
 use morris_pairs::layout::Layout;
 use morris_queries::show::Show;
-use morris_queries::texts::answer_texts;
+use morris_queries::strings::answer_strings;
 
 #[test]
 fn a_write_that_fails_is_told(rt: HostRuntime) {
@@ -17,12 +17,12 @@ fn a_write_that_fails_is_told(rt: HostRuntime) {
     let held = &mut Held { files: &held };
     // The second write of the file fails: the first answer has 28 bytes, the names of the fields
     // 23.
-    let texts = ["XXXOOO...", "XXX.OO.O."];
+    let strings = ["XXXOOO...", "XXX.OO.O."];
     for (show, sent) in [(Show::Best, 28), (Show::Csv, 23)] {
         let mut folder = MemoryFolder::new(rt.alloc(), 0, 2);
         let mut output = folder.create("out").expect(&rt, "a file");
         let alloc = rt.alloc();
-        let answer = answer_texts::<Grid, _, _>(alloc, "grid", held, &texts, show, &mut output);
+        let answer = answer_strings::<Grid, _, _>(alloc, "grid", held, &strings, show, &mut output);
         holds(
             &rt,
             answer == Err(Fault::Write(sent)),

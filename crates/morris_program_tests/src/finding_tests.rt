@@ -10,7 +10,7 @@ use morris_game_tests::memory::MemoryFolder;
 use morris_jobs::fault::Fault;
 use morris_lookup::storage::Storage;
 use morris_pairs::layout::Layout;
-use morris_queries::ask::{find_from, stats_from};
+use morris_queries::file_questions::{find_from, stats_from};
 use morris_queries::find::Shown;
 use morris_queries::library::{Library, Unfound};
 use std::process::Abort;
@@ -38,7 +38,7 @@ fn assert_unfound<L: Library>(
     fault: Fault,
 ) {
     let mut output = IntoWrite::new(Vec::new(rt.alloc()));
-    let shown = Shown::Texts(9);
+    let shown = Shown::Strings(9);
     let answer = find_from(
         rt.alloc(),
         "grid",
@@ -143,7 +143,7 @@ fn a_write_of_positions_that_fails_is_counted(rt: HostRuntime) {
     let held = &mut Held { files: &held };
     let mut folder = MemoryFolder::new(rt.alloc(), 0, 2);
     let mut output = folder.create("out").expect(&rt, "a file");
-    let (alloc, shown) = (rt.alloc(), Shown::Texts(u64::MAX));
+    let (alloc, shown) = (rt.alloc(), Shown::Strings(u64::MAX));
     let answer = find_from(alloc, "grid", "3-3", "won", true, shown, held, &mut output);
     holds(
         &rt,

@@ -7,14 +7,14 @@ use morris_files::folder::Folder;
 use morris_folder_commands::from::verify_from;
 use morris_game_tests::memory::MemoryFolder;
 use morris_index::pair::Pair;
+use morris_jobs::context::Parallelism;
 use morris_jobs::fault::Fault;
 use morris_jobs::flaw::Flaw;
-use morris_jobs::size::{Size, Way};
-use morris_jobs::team::Team;
-use morris_jobs::teller::Teller;
+use morris_jobs::progress::Progress;
+use morris_jobs::size::{Plan, Size};
 use morris_pairs::exact::Exact;
 use morris_pairs::layout::Layout;
-use morris_workers::{Unwatched, Watch};
+use morris_workers::{NoProgress, Watch};
 use std::process::Abort;
 use std::sync::Wait;
 use std::thread::Threads;
@@ -44,20 +44,20 @@ impl Watch for Tally {
     ghost joins = { λ first midway last once again. tt };
 }
 
-impl Teller for Tally {
+impl Progress for Tally {
     ghost use Rattle.std.specs.Prelude.{true};
 
-    ghost is_told = { λ _. true };
+    ghost is_reported = { λ _. true };
 
-    fn is_told(&self) -> bool {
+    fn is_reported(&self) -> bool {
         true
     }
 
-    fn announce_size(&mut self, size: Size) {
+    fn start_with_size(&mut self, size: Size) {
         self.whole = size.entries;
     }
 
-    fn announce<B: Geometry>(&mut self, _pair: Pair<B>, _layout: Layout, _way: Way) {}
+    fn start<B: Geometry>(&mut self, _pair: Pair<B>, _layout: Layout, _plan: Plan) {}
 
     fn begin_pair<B: Geometry>(&mut self, _pair: Pair<B>) {}
 
@@ -72,10 +72,10 @@ fn assert_answers(
     wanted: Result<(), Fault>,
     lines: &str,
 ) {
-    assert_tells(rt, folder, &mut Unwatched, wanted, lines);
+    assert_tells(rt, folder, &mut NoProgress, wanted, lines);
 }
 
-fn assert_tells<T: Teller>(
+fn assert_tells<T: Progress>(
     rt: &(impl Abort + AllocGlobal + Threads + Sync),
     folder: &mut MemoryFolder,
     told: &mut T,
@@ -84,8 +84,16 @@ fn assert_tells<T: Teller>(
 ) {
     assert!(rt; folder.failures() == 0);
     let mut output = IntoWrite::new(Vec::new(rt.alloc()));
-    let team = Team::new(3, 5).expect(rt, "a team");
-    let answer = verify_from(rt, rt.alloc(), "grid", team, folder, &mut output, told);
+    let parallelism = Parallelism::new(3, 5).expect(rt, "a team");
+    let answer = verify_from(
+        rt,
+        rt.alloc(),
+        "grid",
+        parallelism,
+        folder,
+        &mut output,
+        told,
+    );
     assert_answered(rt, answer, output.into_inner().as_slice(), wanted, lines);
 }
 

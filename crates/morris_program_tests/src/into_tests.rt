@@ -7,7 +7,7 @@ use morris_files::folder::Folder;
 use morris_folder_commands::into::build_into;
 use morris_game_tests::memory::MemoryFolder;
 use morris_jobs::fault::Fault;
-use morris_workers::Unwatched;
+use morris_workers::NoProgress;
 use std::process::Abort;
 use std::sync::Wait;
 use std::thread::Threads;
@@ -60,7 +60,7 @@ fn build_onto(
         false,
         folder,
         &mut output,
-        &mut Unwatched,
+        &mut NoProgress,
     );
     (answer, output.into_inner())
 }
@@ -119,9 +119,9 @@ fn assert_refused_with(
     files: usize,
 ) {
     let (answer, folder, printed) = build(rt, calls, writes);
-    let is_told = answer == Err(fault) && is_lines(printed.as_slice(), lines);
+    let is_reported = answer == Err(fault) && is_lines(printed.as_slice(), lines);
     assert!(rt;
-        is_told && folder.count() == files,
+        is_reported && folder.count() == files,
         "{calls} {writes}: {fault}"
     );
 }

@@ -5,7 +5,7 @@ use Rattle.std.specs.List.{Contains}
 use Rattle.std.proofs.lemmas.Bool.{both_ways, cases_lt}
 use Rattle.morris_board.specs.Boards.{Shape}
 use Rattle.morris_board.specs.Positions.{Sides}
-use Rattle.morris_moves.specs.declared.step.Move.{Move}
+use Rattle.morris_moves.specs.declared.game_move.Move.{Move}
 use Rattle.morris_moves.specs.Rules.{moves_of, result_of}
 use Rattle.morris_moves.specs.Values.{is_lost, is_won}
 use Rattle.morris_moves.proofs.ListLaws.{all_contained, contained_any, Contains-head, Contains-tail, Contains-cons_cases, Contains-map, Contains-map_cases}
@@ -16,10 +16,10 @@ use Rattle.morris_pairs.specs.Codes.{IsValue}
 use Rattle.morris_probe.proofs.BestLaws.{one_value}
 use Rattle.morris_probe.proofs.SomeBest.{HasValues, some_best}
 use Rattle.morris_lookup.specs.declared.outcomes.Outcome.{Outcome}
-use Rattle.morris_lookup.specs.Outcomes.{turned}
-use Rattle.morris_lookup.proofs.OutcomeLaws.{best-turned}
+use Rattle.morris_lookup.specs.Outcomes.{value_for_mover}
+use Rattle.morris_lookup.proofs.OutcomeLaws.{best-value_for_mover}
 use Rattle.morris_queries.specs.Exactness.{LeadsTo}
-use Rattle.morris_queries.specs.Telling.{better, value_from}
+use Rattle.morris_queries.specs.Reports.{better, value_from}
 
 -- ---- the better of two values
 
@@ -108,7 +108,7 @@ module _ (board : Shape) (s : Sides) where
   won_by k m c lost = contained_any (λ x. is_lost k board (result_of s x)) (moves_of board s) m c lost
 
   -- no move leads to more than the value
-  at_most : (m : Move) → Contains (moves_of board s) m → (next value : Value) → IsValue board (result_of s m) next → IsValue board s value → AtMost (turned next) value
+  at_most : (m : Move) → Contains (moves_of board s) m → (next value : Value) → IsValue board (result_of s m) next → IsValue board s value → AtMost (value_for_mover next) value
   at_most m c Draw Draw there here = refl
   at_most m c Draw (Won d) there here = refl
   at_most m c Draw (Lost d) there here =
@@ -151,4 +151,4 @@ module _ (board : Shape) (s : Sides) where
             let next = lead o.0 o.1 in
             let there : IsValue board (result_of s b.0) next.0 = subst (λ x. IsValue board (result_of s x) next.0) o.2 next.1 in
             let same : next.0 ≡ b.2.0 = one_value board (result_of s b.0) next.0 b.2.0 there b.2.2 in
-            inr (o.0, o.1, next.2 ∙ (ap turned same ∙ best-turned value b.2.0 b.2.1))
+            inr (o.0, o.1, next.2 ∙ (ap value_for_mover same ∙ best-value_for_mover value b.2.0 b.2.1))

@@ -9,12 +9,12 @@ use Rattle.morris_jobs.specs.declared.fault.Fault.TheVariants as fault
 use Rattle.morris_jobs.specs.Faults.{is_write}
 use Rattle.morris_lookup.specs.Opening.{OpenFile}
 use Rattle.morris_queries.specs.Asked.{AnswersFile, AnswersFrom}
-use Rattle.morris_queries.specs.declared.ask.Question.{Question}
-use Rattle.morris_queries.specs.declared.ask.Question.TheVariants.{Counts as Counting, Positions}
+use Rattle.morris_queries.specs.declared.file_questions.Question.{Question}
+use Rattle.morris_queries.specs.declared.file_questions.Question.TheVariants.{Counts as Counting, Positions}
 use Rattle.morris_queries.specs.declared.library.Unfound.{Unfound}
 use Rattle.morris_queries.specs.declared.library.Unfound.TheVariants as unfound
 use Rattle.morris_queries.specs.Libraries.{find_fault}
-use Rattle.morris_queries.specs.Telling.{Agrees, table_in}
+use Rattle.morris_queries.specs.Reports.{Agrees, table_in}
 
 -- that it is refused by the file, or memory was refused
 pub file_refused : {T : Type 0} (board : Shape) (name : List ℕ) (known : Option Files) (pair : Counts) (question : Question) (output : Option (List ℕ))

@@ -9,7 +9,7 @@ use Rattle.morris_board.specs.Streams.{CountsFailure}
 use Rattle.morris_board.specs.Symmetries.{HasSymmetries}
 use Rattle.morris_board.specs.declared.streams.Failed.{Failed}
 use Rattle.morris_board.specs.declared.streams.printer.Printer.{Printer}
-use Rattle.morris_board.specs.Printers.{IsNew, Takes, WentOut, failed_of, held_of, sent_of, sink_of, told_of}
+use Rattle.morris_board.specs.Printers.{IsNew, Takes, WentOut, has_failed_of, held_of, sent_of, sink_of, answer_of}
 use Rattle.morris_board.proofs.LengthLaws.{flat_map_few}
 use Rattle.morris_board.proofs.PrinterLaws.{all_counted, all_told, ends}
 use Rattle.morris_index.specs.Pairs.{IsPair}
@@ -24,11 +24,11 @@ use Rattle.morris_jobs.specs.declared.fault.Fault.TheVariants as fault
 use Rattle.morris_jobs.specs.Faults.{CountsWrites, Prints, count_fault}
 use Rattle.morris_jobs.proofs.CountedLaws.{both_some, some_map}
 use Rattle.morris_queries.specs.declared.find.Shown.{Shown}
-use Rattle.morris_queries.specs.declared.find.Shown.TheVariants.{Count, Texts}
+use Rattle.morris_queries.specs.declared.find.Shown.TheVariants.{Count, Strings}
 use Rattle.morris_queries.specs.declared.wanted.Kind.{Kind}
 use Rattle.morris_queries.specs.declared.wanted.Wanted.{Wanted}
 use Rattle.morris_queries.specs.declared.wanted.Wanted.TheVariants.{Deepest, Every}
-use Rattle.morris_queries.specs.Found.{AnswersFind, AreKinds, PrintsBefore, PutsKinds, ended, found_text, has_shown, kind_sum}
+use Rattle.morris_queries.specs.Found.{AnswersFind, AreKinds, PrintsBefore, PutsKinds, end_of, found_text, has_shown, kind_sum}
 use Rattle.morris_queries.specs.Wanted.{AreKindsBy}
 use Rattle.morris_queries.proofs.FoundLaws.{Takes-failed, many_both, not_ok, tallied_shown}
 
@@ -42,7 +42,7 @@ refused_find board entries all wanted shown output r count.Read is sure =
   where
     nothing : (s : Shown) → PrintsBefore board entries all wanted s output output
     nothing Count = Keeps-refl output
-    nothing (Texts most) = inl (Keeps-refl output)
+    nothing (Strings most) = inl (Keeps-refl output)
 
 are_kinds : (says : Sides → ℕ → Type 0) (wanted : Wanted) (tallies : List ℕ) (kinds : Option Kind × Option Kind) → AreTallies says tallies → AreKindsBy wanted tallies kinds
     → AreKinds says wanted kinds
@@ -72,20 +72,20 @@ module _ (board : Shape) (few : board.points ≤ 24) (y : HasSymmetries board) (
 -- ---- texts that went into a printer that was new
 
 -- the texts are few enough to be counted
-texts_few : (board : Shape) (ps : List Sides) → board.points ≤ 24 → length ps ≤ 2 ^ 51 → length (found_text board ps) < 2 ^ 64
+strings_few : (board : Shape) (ps : List Sides) → board.points ≤ 24 → length ps ≤ 2 ^ 51 → length (found_text board ps) < 2 ^ 64
 unfolding found_text
-texts_few board ps points few = omega (arith, flat_map_few (λ s. line (text_of board s)) 25 (line_few board points) ps, few)
+strings_few board ps points few = omega (arith, flat_map_few (λ s. line (text_of board s)) 25 (line_few board points) ps, few)
   where
     line_few : (board : Shape) → board.points ≤ 24 → (s : Sides) → length (line (text_of board s)) ≤ 25
     line_few board points s = simp length-append (omega (arith, points, text_few board s))
 
 -- where all is told as sent, no write has failed
-well_told : (failed : Bool) (n sent : ℕ) → ◌≡◌ {A = Result ℕ ℕ} (if failed then Err n else Ok n) (Ok sent) → failed ≡ false
-well_told false n sent is = refl
-well_told true n sent is = cc
+well_reported : (failed : Bool) (n sent : ℕ) → ◌≡◌ {A = Result ℕ ℕ} (if failed then Err n else Ok n) (Ok sent) → failed ≡ false
+well_reported false n sent is = refl
+well_reported true n sent is = cc
 
 -- what was counted of the writes
-pub ended_counted : (old new : ℕ) (told : Result ℕ ℕ) (read : Result (Unit {0}) Failed) → CountsFailure old new told → CountsWrites old new (ended told read)
+pub ended_counted : (old new : ℕ) (reported : Result ℕ ℕ) (read : Result (Unit {0}) Failed) → CountsFailure old new reported → CountsWrites old new (end_of reported read)
 ended_counted old new (Err sent) read h = h
 ended_counted old new (Ok sent) (Err why) h = h
 ended_counted old new (Ok sent) (Ok done) h = h
@@ -97,24 +97,24 @@ module _ {S : Type 0} (contents : S → Option (List ℕ)) (failures : S → ℕ
   abbrev text : List ℕ
   text = found_text board put.positions
 
-  went : (told : Result ℕ ℕ) → told ≡ told_of b → WentOut (contents (sink_of a)) (contents (sink_of b)) text told
-  went told is =
+  went : (reported : Result ℕ ℕ) → reported ≡ answer_of b → WentOut (contents (sink_of a)) (contents (sink_of b)) text reported
+  went reported is =
       subst (λ (q : Result ℕ ℕ). WentOut (contents (sink_of a)) (contents (sink_of b)) text q) (sym is)
-      (all_told contents failures a b text new empty (texts_few board put.positions points put.few) (ends put.takes last))
+      (all_told contents failures a b text new empty (strings_few board put.positions points put.few) (ends put.takes last))
 
-  unfailed : (sent : ℕ) → Ok sent ≡ told_of b → failed_of m ≡ false
-  unfailed sent is = elim (cases_Bool (failed_of m)) [
+  unfailed : (sent : ℕ) → Ok sent ≡ answer_of b → has_failed_of m ≡ false
+  unfailed sent is = elim (cases_Bool (has_failed_of m)) [
     | inl failed ↦
-        let bad : true ≡ false = sym (Takes-failed contents failures m b [] failed last) ∙ well_told (failed_of b) (sent_of b) sent (sym is) in
+        let bad : true ≡ false = sym (Takes-failed contents failures m b [] failed last) ∙ well_reported (has_failed_of b) (sent_of b) sent (sym is) in
         cc
     | inr well ↦ well
   ]
 
   abbrev Answered : Result (Unit {0}) Fault → Type 0
-  Answered result = AnswersFind board entries all wanted (Texts most) (contents (sink_of a)) (contents (sink_of b)) result
+  Answered result = AnswersFind board entries all wanted (Strings most) (contents (sink_of a)) (contents (sink_of b)) result
 
   -- the texts of all that are found, or the first bytes of these
-  printed : (result : Result (Unit {0}) Fault) → Prints (contents (sink_of a)) (contents (sink_of b)) text result → (IsOk result → IsOk r × (failed_of m ≡ false)) → Answered result
+  printed : (result : Result (Unit {0}) Fault) → Prints (contents (sink_of a)) (contents (sink_of b)) text result → (IsOk result → IsOk r × (has_failed_of m ≡ false)) → Answered result
   printed result out whole = inr (inr (
     (put.positions, out),
     both_some entries.stated _ _ _
@@ -122,10 +122,10 @@ module _ {S : Type 0} (contents : S → Option (List ℕ)) (failures : S → ℕ
   ))
 
   -- what is answered, where a code can't be read only if a read may fail
-  pub texts_answered : (told : Result ℕ ℕ) → told ≡ told_of b → (entries.unfailing ≡ true → IsOk r) → Answered (ended told r)
-  texts_answered told is sure = by told r is refl
+  pub strings_answered : (reported : Result ℕ ℕ) → reported ≡ answer_of b → (entries.unfailing ≡ true → IsOk r) → Answered (end_of reported r)
+  strings_answered reported is sure = by reported r is refl
     where
-      by : (q : Result ℕ ℕ) (p : Result (Unit {0}) Failed) → q ≡ told_of b → r ≡ p → Answered (ended q p)
+      by : (q : Result ℕ ℕ) (p : Result (Unit {0}) Failed) → q ≡ answer_of b → r ≡ p → Answered (end_of q p)
       by (Err sent) p is same = printed (Err (fault.Write sent)) (went (Err sent) is) (λ ok. not_ok (Unit {0}) Fault _ (fault.Write sent) ok)
       by (Ok sent) (Err why) is same = inr (inl (
         refl,
@@ -134,8 +134,8 @@ module _ {S : Type 0} (contents : S → Option (List ℕ)) (failures : S → ℕ
       ))
       by (Ok sent) (Ok done) is same = printed (Ok tt) (went (Ok sent) is) (λ ok. (subst (λ p. IsOk p) (sym same) refl, unfailed sent is))
 
-  pub texts_counted : (told : Result ℕ ℕ) → failures (sink_of a) < 2 ^ 64 - 1 → told ≡ told_of b → CountsWrites (failures (sink_of a)) (failures (sink_of b)) (ended told r)
-  texts_counted told room is =
-      ended_counted (failures (sink_of a)) (failures (sink_of b)) told r
+  pub strings_counted : (reported : Result ℕ ℕ) → failures (sink_of a) < 2 ^ 64 - 1 → reported ≡ answer_of b → CountsWrites (failures (sink_of a)) (failures (sink_of b)) (end_of reported r)
+  strings_counted reported room is =
+      ended_counted (failures (sink_of a)) (failures (sink_of b)) reported r
       (subst (λ (q : Result ℕ ℕ). CountsFailure (failures (sink_of a)) (failures (sink_of b)) q) (sym is)
       (all_counted contents failures a b text new empty room (ends put.takes last)))

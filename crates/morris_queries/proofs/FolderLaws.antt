@@ -7,7 +7,7 @@ use Rattle.morris_lookup.specs.FileSets.{file_for}
 use Rattle.morris_lookup.specs.Opening.{OpenFile}
 use Rattle.morris_queries.specs.declared.values.Folder.{Folder}
 use Rattle.morris_queries.specs.Folders.{IsOf, Stays, lent_of, library_of}
-use Rattle.morris_queries.specs.Telling.{AreOf, table_in}
+use Rattle.morris_queries.specs.Reports.{AreOf, table_in}
 use Rattle.morris_queries.proofs.OpenLaws.{of_more}
 
 module _ {B L F : Type 0} {board : Shape} {files_of : L → Option Files} where
@@ -16,12 +16,12 @@ module _ {B L F : Type 0} {board : Shape} {files_of : L → Option Files} where
   known_as {name = name} {folder = folder} is of = subst (λ k. IsOf board files_of name k folder) is of
 
   pub stays_here : {folder : Folder B L F} → Stays board files_of folder folder
-  stays_here = record { same = refl; kept = refl; still = λ name known of. of }
+  stays_here = record { same = refl; unchanged = refl; still = λ name known of. of }
 
   pub stays_on : {a b c : Folder B L F} → Stays board files_of a b → Stays board files_of b c → Stays board files_of a c
   stays_on first next = record {
     same = next.same ∙ first.same;
-    kept = next.kept ∙ first.kept;
+    unchanged = next.unchanged ∙ first.unchanged;
     still = λ name known of. next.still name known (first.still name known of);
   }
 
@@ -29,10 +29,10 @@ module _ {B L F : Type 0} (board : Shape) (files_of : L → Option Files) where
   -- a file was looked for
   pub stays_asked : (old new : Folder B L F) → lent_of new ≡ lent_of old → new.board.now ≡ old.board.now → new.tables.now ≡ old.tables.now
       → files_of (library_of new) ≡ files_of (library_of old) → Stays board files_of old new
-  stays_asked old new same name tables kept = record {
+  stays_asked old new same name tables unchanged = record {
     same = same;
-    kept = kept;
-    still = λ n known of. record { named = name ∙ of.named; found = kept ∙ of.found; opened = subst (λ ts. AreOf board n known ts) (sym tables) of.opened };
+    unchanged = unchanged;
+    still = λ n known of. record { named = name ∙ of.named; found = unchanged ∙ of.found; opened = subst (λ ts. AreOf board n known ts) (sym tables) of.opened };
   }
 
   -- a file more is open
@@ -43,7 +43,7 @@ module _ {B L F : Type 0} (board : Shape) (files_of : L → Option Files) where
       → Stays board files_of old new
   stays_with old mid new file first same name library this here others = record {
     same = same ∙ first.same;
-    kept = ap files_of library ∙ first.kept;
+    unchanged = ap files_of library ∙ first.unchanged;
     still = λ n known of.
         let m = first.still n known of in
         record {

@@ -14,7 +14,7 @@ use Rattle.morris_board.specs.Positions.{Sides, IsPosition, text_of}
 use Rattle.morris_board.specs.Symmetries.{HasSymmetries}
 use Rattle.morris_index.specs.ClassPairs.{class_index_of}
 use Rattle.morris_index.specs.Pairs.{Counts, IsPair, is_of}
-use Rattle.morris_index.specs.Falls.{HasEntry}
+use Rattle.morris_index.specs.Orbits.{HasEntry}
 use Rattle.morris_index.proofs.IndexLaws.{placed}
 use Rattle.morris_pairs.specs.declared.layout.Layout.{Layout}
 use Rattle.morris_pairs.specs.declared.layout.Layout.TheVariants.{Classes, Full}
@@ -28,7 +28,7 @@ use Rattle.morris_queries.specs.declared.wanted.Kind.{Kind}
 use Rattle.morris_probe.specs.Lines.{line}
 use Rattle.morris_jobs.proofs.CountedLaws.{both_some, some_map}
 use Rattle.morris_board.specs.declared.streams.printer.Printer.{Printer}
-use Rattle.morris_board.specs.Printers.{GoesOut, Outlet, Takes, failed_of, held_of, outlet_of}
+use Rattle.morris_board.specs.Printers.{GoesOut, Outlet, Takes, has_failed_of, held_of, outlet_of}
 use Rattle.morris_board.proofs.PrinterLaws.{and_then_as, ends}
 use Rattle.morris_queries.specs.Found.{AreFound, AreFoundTo, AreManyOfBoth, AreOf, AreOfBoth, IsStated, PutsKind, PutsKinds, found_text, has_shown, kind_sum}
 use Rattle.morris_queries.specs.Wanted.{is_of_kind}
@@ -462,18 +462,18 @@ module _ {S : Type 0} (contents : S → Option (List ℕ)) (failures : S → ℕ
   still_failed true true a b x k failed goes = refl
 
   -- nothing goes out, whatever is put in
-  pub Takes-none : (a b : Printer S) (t u : List ℕ) → failed_of a ≡ true → Takes contents failures a b t → Takes contents failures a b u
+  pub Takes-none : (a b : Printer S) (t u : List ℕ) → has_failed_of a ≡ true → Takes contents failures a b t → Takes contents failures a b u
   Takes-none a b t u failed takes = record {
     same = takes.same;
     lets_out = record {
-      goes = none_out (failed_of a) (failed_of b) (outlet_of a) (outlet_of b) (held_of a ++ t) (held_of a ++ u) (held_of b) failed takes.lets_out.goes;
+      goes = none_out (has_failed_of a) (has_failed_of b) (outlet_of a) (outlet_of b) (held_of a ++ t) (held_of a ++ u) (held_of b) failed takes.lets_out.goes;
     };
   }
 
   -- and it stays failed
-  pub Takes-failed : (a b : Printer S) (t : List ℕ) → failed_of a ≡ true → Takes contents failures a b t → failed_of b ≡ true
+  pub Takes-failed : (a b : Printer S) (t : List ℕ) → has_failed_of a ≡ true → Takes contents failures a b t → has_failed_of b ≡ true
   Takes-failed a b t failed takes =
-      still_failed (failed_of a) (failed_of b) (outlet_of a) (outlet_of b) (held_of a ++ t) (held_of b) failed takes.lets_out.goes
+      still_failed (has_failed_of a) (has_failed_of b) (outlet_of a) (outlet_of b) (held_of a ++ t) (held_of b) failed takes.lets_out.goes
 
 module _ {S : Type 0} (contents : S → Option (List ℕ)) (failures : S → ℕ) (board : Shape) (entries : CodedEntries) (all : Bool) (kinds : Option Kind × Option Kind)
     (most : ℕ) where
@@ -503,10 +503,10 @@ module _ {S : Type 0} (contents : S → Option (List ℕ)) (failures : S → ℕ
 
   module _ (old middle new : Printer S) (left : ℕ) (first : PutsKind contents failures board entries all kinds.0 most old middle (Ok left)) where
     -- a write failed among those of the first kind
-    puts_cut : {T : Type 0} (r : Result T Failed) (text : List ℕ) → failed_of middle ≡ true → Takes contents failures middle new text
+    puts_cut : {T : Type 0} (r : Result T Failed) (text : List ℕ) → has_failed_of middle ≡ true → Takes contents failures middle new text
         → PutsKinds contents failures board entries all kinds most old new r
     puts_cut r text failed takes =
-        let still : failed_of new ≡ true = Takes-failed contents failures middle new text failed takes in
+        let still : has_failed_of new ≡ true = Takes-failed contents failures middle new text failed takes in
         record {
           positions = first.positions;
           few = omega (arith, first.few);
@@ -521,7 +521,7 @@ module _ {S : Type 0} (contents : S → Option (List ℕ)) (failures : S → ℕ
     -- the first kind came to its end, and so did the second, or a code couldn't be read
     pub puts_second : {T : Type 0} (q : Result ℕ Failed) (r : Result T Failed) → (IsOk r → IsOk q) → PutsKind contents failures board entries all kinds.1 left middle new q
         → PutsKinds contents failures board entries all kinds most old new r
-    puts_second q r whole second = elim (cases_Bool (failed_of middle)) [
+    puts_second q r whole second = elim (cases_Bool (has_failed_of middle)) [
       | inl failed ↦ puts_cut r (found_text board second.positions) failed second.takes
       | inr unfailed ↦
           let ps : List Sides = first.positions in
@@ -533,7 +533,7 @@ module _ {S : Type 0} (contents : S → Option (List ℕ)) (failures : S → ℕ
             found =
                 both_some entries.stated _ _ _
                 (λ known one part.
-                let of_first = to_all (of_one known kinds.0) most ps left (failed_of middle) unfailed one in
+                let of_first = to_all (of_one known kinds.0) most ps left (has_failed_of middle) unfailed one in
                 let both = both_part (asked_in known) place_in kinds most part.0 ps second.positions of_first (omega (arith, part.1, rest)) part.3 in (
                   length ps + part.0,
                   both.0,

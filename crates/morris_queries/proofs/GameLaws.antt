@@ -22,10 +22,10 @@ use Rattle.morris_jobs.specs.declared.fault.Fault.{Fault}
 use Rattle.morris_jobs.specs.declared.fault.Fault.TheVariants as fault
 use Rattle.morris_jobs.specs.Counted.{PrintsTallies}
 use Rattle.morris_jobs.proofs.CountedLaws.{answers_game}
-use Rattle.morris_queries.specs.declared.ask.Question.{Question}
-use Rattle.morris_queries.specs.declared.ask.Question.TheVariants.{Counts as Counting, Positions}
+use Rattle.morris_queries.specs.declared.file_questions.Question.{Question}
+use Rattle.morris_queries.specs.declared.file_questions.Question.TheVariants.{Counts as Counting, Positions}
 use Rattle.morris_queries.specs.declared.find.Shown.{Shown}
-use Rattle.morris_queries.specs.declared.find.Shown.TheVariants.{Count, Texts}
+use Rattle.morris_queries.specs.declared.find.Shown.TheVariants.{Count, Strings}
 use Rattle.morris_queries.specs.declared.wanted.Kind.{Kind}
 use Rattle.morris_queries.specs.declared.wanted.Wanted.{Wanted}
 use Rattle.morris_queries.specs.declared.wanted.Wanted.TheVariants.{Deepest, Every}
@@ -73,15 +73,15 @@ module _ (asked wanted : Kind → Sides → Type 0) (entry : Sides → ℕ) (the
     none_second = h.none_second;
   }
 
-  module _ (says told : Sides → ℕ → Type 0) (say : (s : Sides) (code : ℕ) → says s code → told s code) (unsay : (s : Sides) (code : ℕ) → told s code → says s code) where
-    kinds_same : (w : Wanted) (kinds : Option Kind × Option Kind) → AreKinds says w kinds → AreKinds told w kinds
+  module _ (says reported : Sides → ℕ → Type 0) (say : (s : Sides) (code : ℕ) → says s code → reported s code) (unsay : (s : Sides) (code : ℕ) → reported s code → says s code) where
+    kinds_same : (w : Wanted) (kinds : Option Kind × Option Kind) → AreKinds says w kinds → AreKinds reported w kinds
     kinds_same (Every kind) kinds h = h
     kinds_same Deepest kinds h =
-        (h.0, (λ code. many_same (λ s. says s code) (λ s. told s code) _ (λ s a. say s code a) (λ s a. unsay s code a) (h.1 code)), h.2)
+        (h.0, (λ code. many_same (λ s. says s code) (λ s. reported s code) _ (λ s a. say s code a) (λ s a. unsay s code a) (h.1 code)), h.2)
 
     pub prints_same : {T : Type 0} (board : Shape) (w : Wanted) (shown : Shown) (old new : Option (List ℕ)) (r : Result T Fault)
-        → PrintsFound board says asked entry w shown old new r → PrintsFound board told wanted entry w shown old new r
-    prints_same board w (Texts most) old new r h =
+        → PrintsFound board says asked entry w shown old new r → PrintsFound board reported wanted entry w shown old new r
+    prints_same board w (Strings most) old new r h =
         (h.0, h.1, h.2, kinds_same w h.0 h.3, h.4, h.5, both_same h.0 h.1 h.2 h.6, h.7)
     prints_same board w Count old new r h = (h.0, h.1, kinds_same w h.0 h.2, many_both_same h.0 h.1 h.3, h.4)
 

@@ -7,15 +7,15 @@ use Rattle.hex.specs.Hex.{encode_lower, lower_digits}
 use Rattle.hex.proofs.HexLemmas.{length-encode_with}
 use Rattle.morris_board.proofs.LengthLaws.{by_choice, by_test, decimal_few, flat_map_few}
 use Rattle.morris_board.specs.Boards.{Shape}
-use Rattle.morris_moves.specs.declared.step.Move.{Move}
+use Rattle.morris_moves.specs.declared.game_move.Move.{Move}
 use Rattle.morris_pairs.specs.declared.value.Value.{Value}
 use Rattle.morris_pairs.specs.declared.value.Value.TheVariants.{Draw, Won, Lost}
 use Rattle.morris_lookup.specs.declared.outcomes.Outcome.{Outcome}
 use Rattle.morris_probe.proofs.LengthLaws.{move_few, number_line_few, text_few}
 use Rattle.morris_queries.specs.declared.show.Show.{Show}
 use Rattle.morris_queries.specs.declared.show.Show.TheVariants as show
-use Rattle.morris_queries.specs.Printing.{IsShort, best_text, csv_line, csv_value, first_line, outcome_line, ply_line, shown_byte, shown_text, spaced, told_text, value_text}
-use Rattle.morris_queries.specs.Telling.{Played, Telling}
+use Rattle.morris_queries.specs.Printing.{IsShort, best_text, csv_line, csv_value, first_line, outcome_line, ply_line, shown_byte, shown_text, with_space, reported_text, value_text}
+use Rattle.morris_queries.specs.Reports.{Played, PositionReport}
 
 pub byte_few : (byte : ℕ) → length (shown_byte byte) ≤ 4
 unfolding shown_byte
@@ -36,7 +36,7 @@ value_few Draw = omega arith
 value_few (Won depth) = simp length-append (omega (arith, decimal_few depth))
 value_few (Lost depth) = simp length-append (omega (arith, decimal_few depth))
 
-spaced_few : (m : Move) → length (spaced m) ≤ 195
+spaced_few : (m : Move) → length (with_space m) ≤ 195
 spaced_few m = simp length-append (omega (arith, move_few m))
 
 after_colon : (text : List ℕ) (n : ℕ) → length text ≤ n → length (codes ":" ++ text) ≤ 1 + n
@@ -44,9 +44,9 @@ after_colon text n few = omega (arith, few)
 
 best_few : (best : List Move) → length (best_text best) ≤ 1 + 195 * length best
 best_few [] = omega arith
-best_few (m ∷ ms) = after_colon (flat_map spaced (m ∷ ms)) (195 * length (m ∷ ms)) (flat_map_few spaced 195 spaced_few (m ∷ ms))
+best_few (m ∷ ms) = after_colon (flat_map with_space (m ∷ ms)) (195 * length (m ∷ ms)) (flat_map_few with_space 195 spaced_few (m ∷ ms))
 
-first_few : (points : ℕ) (text : List ℕ) (t : Telling) → points ≤ 24 → length (first_line points text t) ≤ 182 + 195 * length t.best
+first_few : (points : ℕ) (text : List ℕ) (t : PositionReport) → points ≤ 24 → length (first_line points text t) ≤ 182 + 195 * length t.best
 unfolding first_line
 first_few points text t low = simp length-append (omega (arith, shown_few points text low, value_few t.value, best_few t.best))
 
@@ -67,14 +67,14 @@ csv_few : (points : ℕ) (text : List ℕ) → points ≤ 24 → (o : Outcome) �
 unfolding csv_line
 csv_few points text low o = simp length-append (omega (arith, shown_few points text low, move_few o.step, csv_value_few o.value))
 
-pub told_few : (board : Shape) (kind : Show) (text : List ℕ) (t : Telling) → board.points ≤ 24 → IsShort t → length (told_text board kind text t) < 2 ^ 63
-unfolding told_text
-told_few board show.Best text t points short = omega (arith, first_few board.points text t points, short.best)
-told_few board show.Moves text t points short =
+pub reported_few : (board : Shape) (kind : Show) (text : List ℕ) (t : PositionReport) → board.points ≤ 24 → IsShort t → length (reported_text board kind text t) < 2 ^ 63
+unfolding reported_text
+reported_few board show.Best text t points short = omega (arith, first_few board.points text t points, short.best)
+reported_few board show.Moves text t points short =
     simp length-append
     (omega (arith, first_few board.points text t points, short.best, flat_map_few outcome_line 270 outcome_few t.outcomes, short.outcomes))
-told_few board show.Line text t points short =
+reported_few board show.Line text t points short =
     simp length-append
     (omega (arith, first_few board.points text t points, short.best, flat_map_few (ply_line board) 300 (ply_few board points) t.line, short.line))
-told_few board show.Csv text t points short =
+reported_few board show.Csv text t points short =
     omega (arith, flat_map_few (csv_line board.points text) 400 (csv_few board.points text points) t.outcomes, short.outcomes)

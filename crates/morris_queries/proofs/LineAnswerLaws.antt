@@ -17,14 +17,14 @@ use Rattle.morris_jobs.specs.declared.fault.Fault.{Fault}
 use Rattle.morris_jobs.specs.declared.fault.Fault.TheVariants as fault
 use Rattle.morris_queries.specs.declared.show.Show.{Show}
 use Rattle.morris_queries.specs.declared.show.Show.TheVariants as show
-use Rattle.morris_queries.specs.declared.texts.Tally.{Tally}
-use Rattle.morris_queries.specs.Answers.{Answer, AnswersText, AreGiven, AreOut, GoesOut, IsAnswer, IsTallied}
-use Rattle.morris_queries.specs.InputLines.{begun_after, is_passed_over, text_in, texts_ended, texts_in, whole_lines}
+use Rattle.morris_queries.specs.declared.strings.Tally.{Tally}
+use Rattle.morris_queries.specs.Answers.{Answer, AnswersString, AreGiven, AreOut, GoesOut, IsAnswer, IsTallied}
+use Rattle.morris_queries.specs.InputLines.{begun_after, is_passed_over, text_in, strings_ended, strings_in, whole_lines}
 use Rattle.morris_queries.specs.LineAnswers.{AnswersFound, AnswersLines, IsReadTo, StopsIn}
-use Rattle.morris_queries.specs.Printing.{answer_text, csv_line, csv_value, first_line, shown_byte, shown_text, told_text}
-use Rattle.morris_queries.specs.Telling.{Agrees, Telling, told_to, told_text as told_of_text}
-use Rattle.morris_queries.proofs.AnswerLaws.{all_out, texts_more, texts_stopped}
-use Rattle.morris_queries.proofs.LineLaws.{begun_after-byte, begun_after-feed, passed_over-start, text_in-start, texts_ended-append, texts_ended-byte, texts_ended-feed, texts_ended-passed}
+use Rattle.morris_queries.specs.Printing.{answer_string, csv_line, csv_value, first_line, shown_byte, shown_text, reported_text}
+use Rattle.morris_queries.specs.Reports.{Agrees, PositionReport, reported_to, reported_text as reported_of_text}
+use Rattle.morris_queries.proofs.AnswerLaws.{all_out, strings_more, strings_stopped}
+use Rattle.morris_queries.proofs.LineLaws.{begun_after-byte, begun_after-feed, passed_over-start, text_in-start, strings_ended-append, strings_ended-byte, strings_ended-feed, strings_ended-passed}
 
 -- ---- the first 25 bytes of a text tell its answer
 
@@ -63,37 +63,37 @@ module _ (board : Shape) (few : board.points ≤ 24) (k t : List ℕ) (start : t
     | inr long ↦ shown_long k long.0 ∙ (ap shown_first start ∙ sym (shown_long t long.1))
   ]
 
-  told_same : (show : Show) (told : Telling) → told_text board show k told ≡ told_text board show t told
-  unfolding told_text first_line csv_line
-  told_same show.Csv told = ap (λ shown. flat_map (λ (o : Outcome). shown ++ codes "," ++ move_text o.step ++ csv_value o.value) told.outcomes) shown_same
-  told_same _ told = rw shown_same refl
+  reported_same : (show : Show) (reported : PositionReport) → reported_text board show k reported ≡ reported_text board show t reported
+  unfolding reported_text first_line csv_line
+  reported_same show.Csv reported = ap (λ shown. flat_map (λ (o : Outcome). shown ++ codes "," ++ move_text o.step ++ csv_value o.value) reported.outcomes) shown_same
+  reported_same _ reported = rw shown_same refl
 
-  answer_same : (show : Show) (answer : Answer) → answer_text board show k answer ≡ answer_text board show t answer
-  answer_same show (Ok told) = told_same show told
+  answer_same : (show : Show) (answer : Answer) → answer_string board show k answer ≡ answer_string board show t answer
+  answer_same show (Ok reported) = reported_same show reported
   answer_same show (Err refused) = rw shown_same refl
 
-  told_of_same : (name : List ℕ) (files : Files) (show : Show) → told_of_text board name files show k ≡ told_of_text board name files show t
-  unfolding told_of_text
-  told_of_same name files show = ap (told_to board name files show) read_same
+  reported_of_same : (name : List ℕ) (files : Files) (show : Show) → reported_of_text board name files show k ≡ reported_of_text board name files show t
+  unfolding reported_of_text
+  reported_of_same name files show = ap (reported_to board name files show) read_same
 
   is_answer : (name : List ℕ) (known : Option Files) (show : Show) (answer : Answer) → IsAnswer board name known show k answer → IsAnswer board name known show t answer
   is_answer name known show answer h = record {
     refused = λ fault is. h.refused fault (read_same ∙ is);
     listed = λ s is. h.listed s (read_same ∙ is);
-    told = λ files there. subst (Agrees answer) (told_of_same name files show) (h.told files there);
+    reported = λ files there. subst (Agrees answer) (reported_of_same name files show) (h.reported files there);
     exact = λ files there s is right. h.exact files there s (read_same ∙ is) right;
   }
 
   pub answers_same : (name : List ℕ) (known : Option Files) (show : Show) (old new : Option (List ℕ)) (result : Result Answered ℕ)
-      → AnswersText board name known show k old new result → AnswersText board name known show t old new result
+      → AnswersString board name known show k old new result → AnswersString board name known show t old new result
   answers_same name known show old new result h =
       (h.0, is_answer name known show h.0 h.1, subst (λ whole. GoesOut old new whole (is_err h.0) result) (answer_same show h.0) h.2)
 
 -- what is answered to the text of the first bytes of a line is answered to the line's text
-answers_line : (board : Shape) → board.points ≤ 24 → (line kept name : List ℕ) (known : Option Files) (show : Show) (old new : Option (List ℕ)) (result : Result Answered ℕ)
-    → kept ≡ take 26 line → AnswersText board name known show (text_in kept) old new result → AnswersText board name known show (text_in line) old new result
-answers_line board few line kept name known show old new result is h =
-    answers_same board few (text_in kept) (text_in line) (ap (λ l. take 25 (text_in l)) is ∙ text_in-start line) name known show old new result h
+answers_line : (board : Shape) → board.points ≤ 24 → (line retained name : List ℕ) (known : Option Files) (show : Show) (old new : Option (List ℕ)) (result : Result Answered ℕ)
+    → retained ≡ take 26 line → AnswersString board name known show (text_in retained) old new result → AnswersString board name known show (text_in line) old new result
+answers_line board few line retained name known show old new result is h =
+    answers_same board few (text_in retained) (text_in line) (ap (λ l. take 25 (text_in l)) is ∙ text_in-start line) name known show old new result h
 
 -- ---- from byte to byte
 
@@ -103,81 +103,81 @@ module _ (board : Shape) (name : List ℕ) (known : Option Files) (show : Show) 
 
   pub read_none : (old new : Option (List ℕ)) (line : List ℕ) (tally : Tally) → line ≡ [] → AreOut board name known show [] old new tally → ReadTo [] old new line tally
   unfolding whole_lines begun_after
-  read_none old new line tally empty out = record { kept = empty; out = out }
+  read_none old new line tally empty out = record { retained = empty; out = out }
 
   -- a byte that is no line feed
   pub read_byte : (read : List ℕ) (b : ℕ) (old new : Option (List ℕ)) (line more : List ℕ) (tally : Tally) → b ≢ 10
       → ((begun : List ℕ) → line ≡ take 26 begun → more ≡ take 26 (begun ++ b ∷ [])) → ReadTo read old new line tally
       → ReadTo (read ++ b ∷ []) old new more tally
-  read_byte read b old new line more tally other kept h =
+  read_byte read b old new line more tally other retained h =
       let off : nat_eq b 10 ≡ false = ne_eqb b 10 other in
       record {
-        kept = kept (begun_after [] read) h.kept ∙ ap (take 26) (sym (begun_after-byte read b off));
-        out = subst (λ ts. AreOut board name known show ts old new tally) (sym (texts_ended-byte read b off)) h.out;
+        retained = retained (begun_after [] read) h.retained ∙ ap (take 26) (sym (begun_after-byte read b off));
+        out = subst (λ ts. AreOut board name known show ts old new tally) (sym (strings_ended-byte read b off)) h.out;
       }
 
   -- whether the line that is begun is passed over, by its first bytes
   begun_passed : (read line : List ℕ) (passed : Bool) → line ≡ take 26 (begun_after [] read) → is_passed_over (text_in line) ≡ passed
       → is_passed_over (text_in (begun_after [] read)) ≡ passed
-  begun_passed read line passed kept is = sym (passed_over-start (begun_after [] read)) ∙ (ap (λ l. is_passed_over (text_in l)) (sym kept) ∙ is)
+  begun_passed read line passed retained is = sym (passed_over-start (begun_after [] read)) ∙ (ap (λ l. is_passed_over (text_in l)) (sym retained) ∙ is)
 
   -- a line feed, where its line is passed over
   pub read_passed : (read : List ℕ) (old new : Option (List ℕ)) (line more : List ℕ) (tally : Tally) → is_passed_over (text_in line) ≡ true → more ≡ []
       → ReadTo read old new line tally → ReadTo (read ++ 10 ∷ []) old new more tally
   read_passed read old new line more tally passed empty h = record {
-    kept = empty ∙ ap (take 26) (sym (begun_after-feed read));
-    out = subst (λ ts. AreOut board name known show ts old new tally) (sym (texts_ended-passed read (begun_passed read line true h.kept passed))) h.out;
+    retained = empty ∙ ap (take 26) (sym (begun_after-feed read));
+    out = subst (λ ts. AreOut board name known show ts old new tally) (sym (strings_ended-passed read (begun_passed read line true h.retained passed))) h.out;
   }
 
   -- a line feed, and the answer to its line
   pub read_feed : board.points ≤ 24 → (read : List ℕ) (old mid new : Option (List ℕ)) (line more : List ℕ) (before after : Tally) (answered : Result Answered ℕ)
-      → is_passed_over (text_in line) ≡ false → AnswersText board name known show (text_in line) mid new answered
+      → is_passed_over (text_in line) ≡ false → AnswersString board name known show (text_in line) mid new answered
       → IsTallied before after answered (Ok tt) → more ≡ [] → ReadTo read old mid line before
       → ReadTo (read ++ 10 ∷ []) old new more after
   read_feed few read old mid new line more before after answered asked answers tallied empty h = record {
-    kept = empty ∙ ap (take 26) (sym (begun_after-feed read));
+    retained = empty ∙ ap (take 26) (sym (begun_after-feed read));
     out =
-        subst (λ ts. AreOut board name known show ts old new after) (sym (texts_ended-feed read (begun_passed read line false h.kept asked)))
-        (texts_more board name known show (texts_ended read) (text_in (begun_after [] read)) old mid new before after answered h.out
-        (answers_line board few (begun_after [] read) line name known show mid new answered h.kept answers) tallied);
+        subst (λ ts. AreOut board name known show ts old new after) (sym (strings_ended-feed read (begun_passed read line false h.retained asked)))
+        (strings_more board name known show (strings_ended read) (text_in (begun_after [] read)) old mid new before after answered h.out
+        (answers_line board few (begun_after [] read) line name known show mid new answered h.retained answers) tallied);
   }
 
   pub feed_stops : board.points ≤ 24 → (read : List ℕ) (old mid new : Option (List ℕ)) (line : List ℕ) (before after : Tally) (answered : Result Answered ℕ) (refusal : Fault)
-      → is_passed_over (text_in line) ≡ false → AnswersText board name known show (text_in line) mid new answered
+      → is_passed_over (text_in line) ≡ false → AnswersString board name known show (text_in line) mid new answered
       → IsTallied before after answered (Err refusal) → ReadTo read old mid line before
-      → StopsIn board name known show (texts_ended (read ++ 10 ∷ [])) old new refusal
+      → StopsIn board name known show (strings_ended (read ++ 10 ∷ [])) old new refusal
   feed_stops few read old mid new line before after answered refusal asked answers tallied h =
       let text : List ℕ = text_in (begun_after [] read) in
-      subst (λ ts. StopsIn board name known show ts old new refusal) (sym (texts_ended-feed read (begun_passed read line false h.kept asked)))
-      (texts_stopped board name known show (texts_ended read ++ text ∷ []) (texts_ended read) (length (texts_ended read ++ text ∷ [])) text old mid new before after answered refusal h.out
-      (answers_line board few (begun_after [] read) line name known show mid new answered h.kept answers) tallied (take_all _ (texts_ended read ++ text ∷ []) (omega arith)))
+      subst (λ ts. StopsIn board name known show ts old new refusal) (sym (strings_ended-feed read (begun_passed read line false h.retained asked)))
+      (strings_stopped board name known show (strings_ended read ++ text ∷ []) (strings_ended read) (length (strings_ended read ++ text ∷ [])) text old mid new before after answered refusal h.out
+      (answers_line board few (begun_after [] read) line name known show mid new answered h.retained answers) tallied (take_all _ (strings_ended read ++ text ∷ []) (omega arith)))
 
   -- what stopped among some texts stopped among more
-  stops_longer : (texts more : List (List ℕ)) (old new : Option (List ℕ)) (refusal : Fault) → StopsIn board name known show texts old new refusal
-      → StopsIn board name known show (texts ++ more) old new refusal
-  stops_longer texts more old new (fault.Write sent) h =
-      let low : min h.0 (length texts) ≤ length texts = omega arith in
-      let same : take h.0 texts ≡ take (min h.0 (length texts)) (texts ++ more) = sym (take-append-le _ texts more low ∙ take_min h.0 texts) in
-      (min h.0 (length texts), h.1, subst (λ ts. AreGiven board name known show ts h.1) same h.2, h.3)
-  stops_longer texts more old new _ h = absurd h
+  stops_longer : (strings more : List (List ℕ)) (old new : Option (List ℕ)) (refusal : Fault) → StopsIn board name known show strings old new refusal
+      → StopsIn board name known show (strings ++ more) old new refusal
+  stops_longer strings more old new (fault.Write sent) h =
+      let low : min h.0 (length strings) ≤ length strings = omega arith in
+      let same : take h.0 strings ≡ take (min h.0 (length strings)) (strings ++ more) = sym (take-append-le _ strings more low ∙ take_min h.0 strings) in
+      (min h.0 (length strings), h.1, subst (λ ts. AreGiven board name known show ts h.1) same h.2, h.3)
+  stops_longer strings more old new _ h = absurd h
 
-  pub stops_later : (read more : List ℕ) (old new : Option (List ℕ)) (refusal : Fault) → StopsIn board name known show (texts_ended read) old new refusal
-      → StopsIn board name known show (texts_ended (read ++ more)) old new refusal
+  pub stops_later : (read more : List ℕ) (old new : Option (List ℕ)) (refusal : Fault) → StopsIn board name known show (strings_ended read) old new refusal
+      → StopsIn board name known show (strings_ended (read ++ more)) old new refusal
   stops_later read more old new refusal h =
-      subst (λ ts. StopsIn board name known show ts old new refusal) (sym (texts_ended-append read more))
-      (stops_longer (texts_ended read) _ old new refusal h)
+      subst (λ ts. StopsIn board name known show ts old new refusal) (sym (strings_ended-append read more))
+      (stops_longer (strings_ended read) _ old new refusal h)
 
   -- ---- the answer to the whole input
 
   pub lines_stopped : (before after old new : Option (List ℕ)) (read : List ℕ) (refusal : Fault) → Consumes before after read
-      → StopsIn board name known show (texts_in read) old new refusal → AnswersLines board name known show before after old new (Err refusal)
+      → StopsIn board name known show (strings_in read) old new refusal → AnswersLines board name known show before after old new (Err refusal)
   lines_stopped before after old new read (fault.Write sent) got stops = (read, got, stops)
   lines_stopped before after old new read _ got stops = absurd stops
 
   pub lines_unread : (before mid after : Option (List ℕ)) (old new : Option (List ℕ)) (read line : List ℕ) (tally : Tally) → Consumes before mid read → Keeps mid after
       → ReadTo read old new line tally → AnswersLines board name known show before after old new (Err fault.Read)
-  lines_unread before mid after old new read line tally got kept here =
-      (read, Consumes-kept before mid after read got kept, (tally.refused, all_out board name known show (texts_ended read) old new tally here.out))
+  lines_unread before mid after old new read line tally got retained here =
+      (read, Consumes-kept before mid after read got retained, (tally.refused, all_out board name known show (strings_ended read) old new tally here.out))
 
   -- ---- where the place of the files was found
 

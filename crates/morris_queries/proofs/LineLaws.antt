@@ -5,7 +5,7 @@ use Rattle.std.specs.Prelude.{nat_eq, not, slice_index}
 use Rattle.std.proofs.lemmas.Bool.{cases_lt}
 use Rattle.std.proofs.lemmas.List.Elements.{filter-append}
 use Rattle.std.proofs.lemmas.List.{take-take, take-append-le, take_all, length-take, map-append}
-use Rattle.morris_queries.specs.InputLines.{begun_after, is_passed_over, text_in, texts_ended, texts_of, whole_lines}
+use Rattle.morris_queries.specs.InputLines.{begun_after, is_passed_over, text_in, strings_ended, strings_of, whole_lines}
 
 -- ---- bytes after bytes
 
@@ -32,39 +32,39 @@ begun_after-append begun (x ∷ xs) ys = go (nat_eq x 10) refl (begun_after-appe
     go false e ended other = rw e other
 
 -- the texts of the lines that end within bytes stay the first ones
-texts_of-append : (xs ys : List (List ℕ)) → texts_of (xs ++ ys) ≡ texts_of xs ++ texts_of ys
-texts_of-append xs ys =
+strings_of-append : (xs ys : List (List ℕ)) → strings_of (xs ++ ys) ≡ strings_of xs ++ strings_of ys
+strings_of-append xs ys =
     ap (filter (λ text. not (is_passed_over text))) (map-append text_in xs ys)
     ∙ filter-append (λ text. not (is_passed_over text)) (map text_in xs) (map text_in ys)
 
-pub texts_ended-append : (xs ys : List ℕ) → texts_ended (xs ++ ys) ≡ texts_ended xs ++ texts_of (whole_lines (begun_after [] xs) ys)
-texts_ended-append xs ys = ap texts_of (whole_lines-append [] xs ys) ∙ texts_of-append (whole_lines [] xs) _
+pub strings_ended-append : (xs ys : List ℕ) → strings_ended (xs ++ ys) ≡ strings_ended xs ++ strings_of (whole_lines (begun_after [] xs) ys)
+strings_ended-append xs ys = ap strings_of (whole_lines-append [] xs ys) ∙ strings_of-append (whole_lines [] xs) _
 
 -- a line feed ends the line that was begun, which is answered
-pub texts_ended-feed : (xs : List ℕ) → is_passed_over (text_in (begun_after [] xs)) ≡ false
-    → texts_ended (xs ++ 10 ∷ []) ≡ texts_ended xs ++ text_in (begun_after [] xs) ∷ []
+pub strings_ended-feed : (xs : List ℕ) → is_passed_over (text_in (begun_after [] xs)) ≡ false
+    → strings_ended (xs ++ 10 ∷ []) ≡ strings_ended xs ++ text_in (begun_after [] xs) ∷ []
 unfolding whole_lines
-texts_ended-feed xs asked =
-    let one : texts_of (begun_after [] xs ∷ []) ≡ text_in (begun_after [] xs) ∷ [] = rw asked refl in
-    texts_ended-append xs (10 ∷ []) ∙ ap (λ ts. texts_ended xs ++ ts) one
+strings_ended-feed xs asked =
+    let one : strings_of (begun_after [] xs ∷ []) ≡ text_in (begun_after [] xs) ∷ [] = rw asked refl in
+    strings_ended-append xs (10 ∷ []) ∙ ap (λ ts. strings_ended xs ++ ts) one
 
 -- or passed over
-pub texts_ended-passed : (xs : List ℕ) → is_passed_over (text_in (begun_after [] xs)) ≡ true → texts_ended (xs ++ 10 ∷ []) ≡ texts_ended xs
+pub strings_ended-passed : (xs : List ℕ) → is_passed_over (text_in (begun_after [] xs)) ≡ true → strings_ended (xs ++ 10 ∷ []) ≡ strings_ended xs
 unfolding whole_lines
-texts_ended-passed xs passed =
-    let none : texts_of (begun_after [] xs ∷ []) ≡ [] = rw passed refl in
-    texts_ended-append xs (10 ∷ []) ∙ (ap (λ ts. texts_ended xs ++ ts) none ∙ append-nil (texts_ended xs))
+strings_ended-passed xs passed =
+    let none : strings_of (begun_after [] xs ∷ []) ≡ [] = rw passed refl in
+    strings_ended-append xs (10 ∷ []) ∙ (ap (λ ts. strings_ended xs ++ ts) none ∙ append-nil (strings_ended xs))
 
 pub begun_after-feed : (xs : List ℕ) → begun_after [] (xs ++ 10 ∷ []) ≡ []
 unfolding begun_after
 begun_after-feed xs = begun_after-append [] xs (10 ∷ [])
 
 -- any other byte belongs to it
-pub texts_ended-byte : (xs : List ℕ) (b : ℕ) → nat_eq b 10 ≡ false → texts_ended (xs ++ b ∷ []) ≡ texts_ended xs
+pub strings_ended-byte : (xs : List ℕ) (b : ℕ) → nat_eq b 10 ≡ false → strings_ended (xs ++ b ∷ []) ≡ strings_ended xs
 unfolding whole_lines
-texts_ended-byte xs b other =
+strings_ended-byte xs b other =
     let none : whole_lines (begun_after [] xs) (b ∷ []) ≡ [] = rw other refl in
-    texts_ended-append xs (b ∷ []) ∙ (ap (λ ls. texts_ended xs ++ texts_of ls) none ∙ append-nil (texts_ended xs))
+    strings_ended-append xs (b ∷ []) ∙ (ap (λ ls. strings_ended xs ++ strings_of ls) none ∙ append-nil (strings_ended xs))
 
 pub begun_after-byte : (xs : List ℕ) (b : ℕ) → nat_eq b 10 ≡ false → begun_after [] (xs ++ b ∷ []) ≡ begun_after [] xs ++ b ∷ []
 unfolding begun_after
@@ -75,15 +75,15 @@ begun_after-byte xs b other =
 -- ---- the first bytes of a line
 
 -- another byte of the line is kept where there is room
-pub kept-short : (line : List ℕ) (b : ℕ) → length (take 26 line) < 26 → take 26 line ++ b ∷ [] ≡ take 26 (line ++ b ∷ [])
-kept-short line b low =
+pub unchanged-short : (line : List ℕ) (b : ℕ) → length (take 26 line) < 26 → take 26 line ++ b ∷ [] ≡ take 26 (line ++ b ∷ [])
+unchanged-short line b low =
     let short : length line < 26 = omega (arith, low, length-take 26 line) in
     let both : length (line ++ b ∷ []) ≤ 26 = omega (arith, short, length-append line (b ∷ [])) in
     ap (λ l. l ++ b ∷ []) (take_all 26 line (omega (arith, short))) ∙ sym (take_all 26 (line ++ b ∷ []) both)
 
 -- and where there is none, the first bytes stay
-pub kept-full : (line : List ℕ) (b : ℕ) → length (take 26 line) ≡ 26 → take 26 line ≡ take 26 (line ++ b ∷ [])
-kept-full line b full =
+pub unchanged-full : (line : List ℕ) (b : ℕ) → length (take 26 line) ≡ 26 → take 26 line ≡ take 26 (line ++ b ∷ [])
+unchanged-full line b full =
     let long : 26 ≤ length line = omega (arith, full, length-take 26 line) in
     sym (take-append-le 26 line (b ∷ []) long)
 
@@ -100,8 +100,8 @@ pub text_in-start : (line : List ℕ) → take 25 (text_in (take 26 line)) ≡ t
 text_in-start line = elim (cases_lt 26 (length line)) [
   | inr short ↦ ap (λ l. take 25 (text_in l)) (take_all 26 line short)
   | inl long ↦
-      let kept : 26 ≤ length (take 26 line) = omega (arith, long, length-take 26 line) in
-      text_in-long (take 26 line) kept ∙ (take-take 25 26 line (omega arith) ∙ sym (text_in-long line (omega (arith, long))))
+      let unchanged : 26 ≤ length (take 26 line) = omega (arith, long, length-take 26 line) in
+      text_in-long (take 26 line) unchanged ∙ (take-take 25 26 line (omega arith) ∙ sym (text_in-long line (omega (arith, long))))
 ]
 
 -- and so whether it is passed over

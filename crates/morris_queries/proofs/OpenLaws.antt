@@ -13,13 +13,13 @@ use Rattle.morris_pairs.specs.declared.value.Value.TheVariants.{Lost}
 use Rattle.morris_pairs.specs.Codes.{value_in}
 use Rattle.morris_lookup.specs.FileSets.{Files as OpenFiles, file_for, said_of, said_at, said_by, missing_file}
 use Rattle.morris_lookup.specs.Lookups.{code_for}
-use Rattle.morris_lookup.specs.Opening.{OpenFile, open_file, framed_in}
+use Rattle.morris_lookup.specs.Opening.{OpenFile, open_file, check_file}
 use Rattle.morris_files.specs.Files.{Files}
 use Rattle.morris_files.specs.Names.{name_of}
 use Rattle.morris_jobs.specs.declared.fault.Fault.{Fault}
 use Rattle.morris_jobs.specs.Faults.{needs_fault}
 use Rattle.morris_queries.specs.Libraries.{IsFound, Opens}
-use Rattle.morris_queries.specs.Telling.{Agrees, AreOf, followed, same_counts, framed_as, opened_as, table_in, stated_in, value_at, told_value}
+use Rattle.morris_queries.specs.Reports.{Agrees, AreOf, then_step, same_counts, check_pair, open_as, table_in, stated_in, value_at, reported_value}
 use Rattle.morris_queries.proofs.TellingLaws.{refusal_followed}
 
 -- ---- pairs
@@ -31,8 +31,8 @@ counts_alike c d e =
 -- ---- what was found
 
 module _ (board : Shape) (c : Counts) where
-  pub framed_found : (layout : Layout) (pair : Counts) (bytes : List ℕ) → pair ≡ c → framed_in board bytes ≡ Ok (layout, pair)
-      → opened_as board c (Some bytes) ≡ Ok (open_file layout pair (Some bytes) (Some bytes))
+  pub framed_found : (layout : Layout) (pair : Counts) (bytes : List ℕ) → pair ≡ c → check_file board bytes ≡ Ok (layout, pair)
+      → open_as board c (Some bytes) ≡ Ok (open_file layout pair (Some bytes) (Some bytes))
   framed_found layout pair bytes is framed =
       rw (framed, counts_alike pair c is) (ap (λ p. Ok (open_file layout p (Some bytes) (Some bytes))) (sym is))
 
@@ -44,9 +44,9 @@ found_known E contents (Some all) files name found e h = let same : all ≡ file
 
 -- what was opened under the name of a pair
 pub opened_named : (board : Shape) (name : List ℕ) (files : Files) (c : Counts) (path : List ℕ) (answer : Result OpenFile Fault) → path ≡ name_of name c
-    → Agrees answer (opened_as board c (files path)) → Agrees answer (table_in board name files c)
+    → Agrees answer (open_as board c (files path)) → Agrees answer (table_in board name files c)
 unfolding table_in
-opened_named board name files c path answer is h = subst (λ p. Agrees answer (opened_as board c (files p))) is h
+opened_named board name files c path answer is h = subst (λ p. Agrees answer (open_as board c (files p))) is h
 
 -- ---- open files
 
@@ -72,15 +72,15 @@ module _ (board : Shape) (name : List ℕ) where
 
   -- ---- the value of a position
 
-  bytes_there : (c : Counts) (stored : Option (List ℕ)) (file : OpenFile) → opened_as board c stored ≡ Ok file → (bytes : List ℕ) × (file.bytes ≡ Some bytes)
+  bytes_there : (c : Counts) (stored : Option (List ℕ)) (file : OpenFile) → open_as board c stored ≡ Ok file → (bytes : List ℕ) × (file.bytes ≡ Some bytes)
   bytes_there c None file e = cc
-  bytes_there c (Some bytes) file e = framed_there (framed_in board bytes) e
+  bytes_there c (Some bytes) file e = framed_there (check_file board bytes) e
     where
       made_there : (b : Bool) (kind : Layout × Counts) → (if b then Ok (open_file kind.0 c (Some bytes) (Some bytes)) else Err (needs_fault c)) ≡ Ok file → (bs : List ℕ) × (file.bytes ≡ Some bs)
       made_there true kind e = let same : open_file kind.0 c (Some bytes) (Some bytes) ≡ file = cc in (bytes, ap (λ (f : OpenFile). f.bytes) (sym same))
       made_there false kind e = cc
 
-      framed_there : (framed : Result (Layout × Counts) ReadFault) → framed_as c bytes framed ≡ Ok file → (bs : List ℕ) × (file.bytes ≡ Some bs)
+      framed_there : (framed : Result (Layout × Counts) ReadFault) → check_pair c bytes framed ≡ Ok file → (bs : List ℕ) × (file.bytes ≡ Some bs)
       framed_there (Ok kind) e = made_there (same_counts kind.1 c) kind e
       framed_there (Err refusal) e = cc
 
@@ -89,10 +89,10 @@ module _ (board : Shape) (name : List ℕ) where
   table_bytes files c file e = bytes_there c (files (name_of name c)) file e
 
   -- what the open files say of a position, where that of its pair is open, is what the folder tells
-  pub said_told : (files : Files) (opened : OpenFiles) (s : Sides) → ((c : Counts) (file : OpenFile) → file_for opened c ≡ Some file → table_in board name files c ≡ Ok file)
-      → missing_file opened s ≡ None → (value : Value) × (said_of board opened s ≡ Some value) × (told_value board name files s ≡ Ok value)
-  unfolding told_value
-  said_told files opened s are none = at_pair (pair_of s) none
+  pub said_reported : (files : Files) (opened : OpenFiles) (s : Sides) → ((c : Counts) (file : OpenFile) → file_for opened c ≡ Some file → table_in board name files c ≡ Ok file)
+      → missing_file opened s ≡ None → (value : Value) × (said_of board opened s ≡ Some value) × (reported_value board name files s ≡ Ok value)
+  unfolding reported_value
+  said_reported files opened s are none = at_pair (pair_of s) none
     where
       with_bytes : (c : Counts) (file : OpenFile) (o : Option (List ℕ)) (bytes : List ℕ) → file.bytes ≡ o → o ≡ Some bytes → table_in board name files c ≡ Ok file
           → (value : Value) × (option_map (λ b. value_in (code_for board file b s)) o ≡ Some value) × (value_at board name files s (Some c) ≡ Ok value)
@@ -100,7 +100,7 @@ module _ (board : Shape) (name : List ℕ) where
       with_bytes c file (Some b) bytes is e found = (
         value_in (code_for board file b s),
         refl,
-        ap (λ r. followed r (λ f. Ok (stated_in board s f))) found ∙ ap (λ o. Ok (value_in (code_for board file (unwrap_or o []) s))) is,
+        ap (λ r. then_step r (λ f. Ok (stated_in board s f))) found ∙ ap (λ o. Ok (value_in (code_for board file (unwrap_or o []) s))) is,
       )
 
       with_file : (c : Counts) (o : Option OpenFile) → file_for opened c ≡ o → (if is_some o then None else Some c) ≡ None
@@ -116,28 +116,28 @@ module _ (board : Shape) (name : List ℕ) where
       at_pair (Some c) e = with_file c (file_for opened c) refl e
 
   -- the value that the open files say is the one that the folder tells
-  pub told_ok : (F : Type 0) (files : Files) (opened : OpenFiles) (s : Sides) (value : Value)
+  pub reported_ok : (F : Type 0) (files : Files) (opened : OpenFiles) (s : Sides) (value : Value)
       → ((c : Counts) (file : OpenFile) → file_for opened c ≡ Some file → table_in board name files c ≡ Ok file) → missing_file opened s ≡ None
-      → ((v : Value) → said_of board opened s ≡ Some v → ◌≡◌ {A = Result Value F} (Ok value) (Ok v)) → told_value board name files s ≡ Ok value
-  told_ok F files opened s value are none said =
-      let told = said_told files opened s are none in
-      let both : ◌≡◌ {A = Result Value F} (Ok value) (Ok told.0) = said told.0 told.1 in
-      let same : told.0 ≡ value = cc in
-      told.2 ∙ ap (λ v. Ok v) same
+      → ((v : Value) → said_of board opened s ≡ Some v → ◌≡◌ {A = Result Value F} (Ok value) (Ok v)) → reported_value board name files s ≡ Ok value
+  reported_ok F files opened s value are none said =
+      let reported = said_reported files opened s are none in
+      let both : ◌≡◌ {A = Result Value F} (Ok value) (Ok reported.0) = said reported.0 reported.1 in
+      let same : reported.0 ≡ value = cc in
+      reported.2 ∙ ap (λ v. Ok v) same
 
   -- and reading them doesn't fail
   pub never_refused : {X : Type 0} (F : Type 0) (files : Files) (opened : OpenFiles) (s : Sides) (fault : F)
       → ((c : Counts) (file : OpenFile) → file_for opened c ≡ Some file → table_in board name files c ≡ Ok file) → missing_file opened s ≡ None
       → ((v : Value) → said_of board opened s ≡ Some v → ◌≡◌ {A = Result Value F} (Err fault) (Ok v)) → X
   never_refused F files opened s fault are none said =
-      let told = said_told files opened s are none in
-      let no : ◌≡◌ {A = Result Value F} (Err fault) (Ok told.0) = said told.0 told.1 in
+      let reported = said_reported files opened s are none in
+      let no : ◌≡◌ {A = Result Value F} (Err fault) (Ok reported.0) = said reported.0 reported.1 in
       cc
 
   -- why there is no value where the file of the pair is refused
   pub value_refused : {T : Type 0} (files : Files) (s : Sides) (c : Counts) → pair_of s ≡ Some c → (answer : Result T Fault)
-      → IfErr answer (λ refused. Agrees (Err refused) (table_in board name files c)) → IfErr answer (λ refused. Agrees (Err refused) (told_value board name files s))
-  unfolding told_value
+      → IfErr answer (λ refused. Agrees (Err refused) (table_in board name files c)) → IfErr answer (λ refused. Agrees (Err refused) (reported_value board name files s))
+  unfolding reported_value
   value_refused files s c of (Ok done) h = tt
   value_refused files s c of (Err refused) h =
       subst (λ o. Agrees (Err refused) (value_at board name files s o)) (sym of) (refusal_followed refused (table_in board name files c) (λ file. Ok (stated_in board s file)) h)

@@ -18,10 +18,10 @@ module _ {B L O F : Type 0} {board : Shape} {files_of : L → Option Files} wher
   reading_on first next = record { folder = stays_on first.folder next.folder; output = next.output ∙ first.output; show = next.show ∙ first.show }
 
 -- a write that stops it is no read
-pub stopped_reads : (board : Shape) (name : List ℕ) (known : Option Files) (show : Show) (texts : List (List ℕ)) (start out before after : Option (List ℕ))
-    (refusal : Fault) → StopsIn board name known show texts start out refusal → (failed now : ℕ) → now ≡ failed
+pub stopped_reads : (board : Shape) (name : List ℕ) (known : Option Files) (show : Show) (strings : List (List ℕ)) (start out before after : Option (List ℕ))
+    (refusal : Fault) → StopsIn board name known show strings start out refusal → (failed now : ℕ) → now ≡ failed
     → CountsReads {T = ℕ} before after failed now (Err refusal)
-stopped_reads board name known show texts start out before after (fault.Write sent) stops failed now same = same
-stopped_reads board name known show texts start out before after _ stops failed now same = absurd stops
+stopped_reads board name known show strings start out before after (fault.Write sent) stops failed now same = same
+stopped_reads board name known show strings start out before after _ stops failed now same = absurd stops
 
 pub ruleset reading_laws = (reading_here, reading_on)

@@ -10,15 +10,15 @@ use Rattle.morris_jobs.specs.declared.fault.Fault.{Fault}
 use Rattle.morris_jobs.specs.declared.fault.Fault.TheVariants as fault
 use Rattle.morris_jobs.specs.Faults.{text_fault}
 use Rattle.morris_queries.specs.declared.answer.Answered.{Answered}
-use Rattle.morris_queries.specs.declared.texts.Tally.{Tally}
+use Rattle.morris_queries.specs.declared.strings.Tally.{Tally}
 use Rattle.morris_queries.specs.declared.show.Show.{Show}
-use Rattle.morris_queries.specs.Telling.{Telling, Agrees, IsListed, told_text}
+use Rattle.morris_queries.specs.Reports.{PositionReport, Agrees, IsListed, reported_text}
 use Rattle.morris_queries.specs.Exactness.{AreExactIn, IsGame}
-use Rattle.morris_queries.specs.Printing.{answer_text, head_text}
+use Rattle.morris_queries.specs.Printing.{answer_string, head_text}
 
 -- an answer to a text: what is told of its position, or a fault
 abbrev pub Answer : Type 0
-Answer = Result Telling Fault
+Answer = Result PositionReport Fault
 
 -- what is answered of a position where the files are those of exact tables: what is so in the game,
 -- or a fault, which never is that the files disagree
@@ -32,16 +32,16 @@ IsExactAnswer board show s (Err refused) = refused ≢ fault.Disagree
 pub record IsAnswer (board : Shape) (name : List ℕ) (known : Option Files) (show : Show) (text : List ℕ) (answer : Answer) : Type 0 where
   pub refused : (fault : TextFault) → read_of board text ≡ Err fault → answer ≡ Err (text_fault fault)
   pub listed : (s : Sides) → read_of board text ≡ Ok s → IfOk answer (IsListed board s)
-  pub told : (files : Files) → known ≡ Some files → Agrees answer (told_text board name files show text)
+  pub reported : (files : Files) → known ≡ Some files → Agrees answer (reported_text board name files show text)
   pub exact : (files : Files) → known ≡ Some files → (s : Sides) → read_of board text ≡ Ok s → AreExactIn board name files show s → IsExactAnswer board show s answer
 
 -- a count, which stops at u64::MAX
-abbrev pub counted_to : ℕ → ℕ
-counted_to n = min n (2 ^ 64 - 1)
+abbrev pub count_up_to : ℕ → ℕ
+count_up_to n = min n (2 ^ 64 - 1)
 
 -- of what was to be printed not all went out, but its first bytes, and so many of them
 abbrev pub WentIn : Option (List ℕ) → Option (List ℕ) → List ℕ → ℕ → Type 0
-WentIn old new whole sent = (went : ℕ) × (went < length whole) × Appends old new (take went whole) × (sent ≡ counted_to went)
+WentIn old new whole sent = (went : ℕ) × (went < length whole) × Appends old new (take went whole) × (sent ≡ count_up_to went)
 
 -- what went out of a text: all of it, and the answer says how many bytes it has and whether it was
 -- a fault; or its first bytes up to the write that failed
@@ -50,9 +50,9 @@ GoesOut old new whole refused (Ok done) = Appends old new whole × (done.sent �
 GoesOut old new whole refused (Err sent) = WentIn old new whole sent
 
 -- what the call for one text answers
-abbrev pub AnswersText : Shape → List ℕ → Option Files → Show → List ℕ → Option (List ℕ) → Option (List ℕ) → Result Answered ℕ → Type 0
-AnswersText board name known show text old new result =
-    (answer : Answer) × IsAnswer board name known show text answer × GoesOut old new (answer_text board show text answer) (is_err answer) result
+abbrev pub AnswersString : Shape → List ℕ → Option Files → Show → List ℕ → Option (List ℕ) → Option (List ℕ) → Result Answered ℕ → Type 0
+AnswersString board name known show text old new result =
+    (answer : Answer) × IsAnswer board name known show text answer × GoesOut old new (answer_string board show text answer) (is_err answer) result
 
 -- ---- many texts
 
@@ -61,26 +61,26 @@ abbrev pub Given : Type 0
 Given = List (List ℕ × Answer)
 
 -- these texts were answered, each with its answer
-pub record AreGiven (board : Shape) (name : List ℕ) (known : Option Files) (show : Show) (texts : List (List ℕ)) (given : Given) : Type 0 where
-  pub listed : map (λ (g : List ℕ × Answer). g.0) given ≡ texts
+pub record AreGiven (board : Shape) (name : List ℕ) (known : Option Files) (show : Show) (strings : List (List ℕ)) (given : Given) : Type 0 where
+  pub listed : map (λ (g : List ℕ × Answer). g.0) given ≡ strings
   pub each : (g : List ℕ × Answer) → Contains given g → IsAnswer board name known show g.0 g.1
 
 -- what is printed of them, one after the other, and before them
-abbrev pub printed_of : Shape → Show → Given → List ℕ
-printed_of board show given = head_text show ++ flat_map (λ (g : List ℕ × Answer). answer_text board show g.0 g.1) given
+abbrev pub output_of : Shape → Show → Given → List ℕ
+output_of board show given = head_text show ++ flat_map (λ (g : List ℕ × Answer). answer_string board show g.0 g.1) given
 
 -- how many of them are faults
-abbrev pub refused_in : Given → ℕ
-refused_in [] = 0
-refused_in (g ∷ given) = (if is_err g.1 then 1 else 0) + refused_in given
+abbrev pub count_refused : Given → ℕ
+count_refused [] = 0
+count_refused (g ∷ given) = (if is_err g.1 then 1 else 0) + count_refused given
 
 -- all answers to these texts went out, and were counted
-pub record AreOut (board : Shape) (name : List ℕ) (known : Option Files) (show : Show) (texts : List (List ℕ)) (old new : Option (List ℕ)) (tally : Tally) : Type 0 where
+pub record AreOut (board : Shape) (name : List ℕ) (known : Option Files) (show : Show) (strings : List (List ℕ)) (old new : Option (List ℕ)) (tally : Tally) : Type 0 where
   pub given : Given
-  pub are : AreGiven board name known show texts given
-  pub out : Appends old new (printed_of board show given)
-  pub sent : tally.sent ≡ counted_to (length (printed_of board show given))
-  pub refused : tally.refused ≡ counted_to (refused_in given)
+  pub are : AreGiven board name known show strings given
+  pub out : Appends old new (output_of board show given)
+  pub sent : tally.sent ≡ count_up_to (length (output_of board show given))
+  pub refused : tally.refused ≡ count_up_to (count_refused given)
 
 -- what stands before all answers went out, and was counted; or a part of it did
 abbrev pub Begins : Show → Option (List ℕ) → Option (List ℕ) → Result Tally ℕ → Type 0
@@ -91,24 +91,24 @@ Begins show old new (Err sent) = WentIn old new (head_text show) sent
 -- bytes that went out until a write failed.
 abbrev pub IsTallied : Tally → Tally → Result Answered ℕ → Result (Unit {0}) Fault → Type 0
 IsTallied old new (Ok done) result =
-    (result ≡ Ok tt) × (new.sent ≡ counted_to (old.sent + done.sent))
-    × (new.refused ≡ counted_to (old.refused + (if done.is_refused then 1 else 0)))
-IsTallied old new (Err sent) result = result ≡ Err (fault.Write (counted_to (old.sent + sent)))
+    (result ≡ Ok tt) × (new.sent ≡ count_up_to (old.sent + done.sent))
+    × (new.refused ≡ count_up_to (old.refused + (if done.is_refused then 1 else 0)))
+IsTallied old new (Err sent) result = result ≡ Err (fault.Write (count_up_to (old.sent + sent)))
 
 -- What the call for a list of texts answers: how many were answered by a fault, where all answers
 -- went out; a write that failed, of the answers to the first texts; or, before anything went out,
 -- that there is no such folder, where its files aren't known, or want of memory.
-abbrev pub AnswersTexts : Shape → List ℕ → Option Files → Show → List (List ℕ) → Option (List ℕ) → Option (List ℕ) → Result ℕ Fault → Type 0
-AnswersTexts board name known show texts old new (Ok refused) =
-    (given : Given) × AreGiven board name known show texts given × Appends old new (printed_of board show given) × (refused ≡ counted_to (refused_in given))
-AnswersTexts board name known show texts old new (Err (fault.Write sent)) =
-    (n : ℕ) × (given : Given) × AreGiven board name known show (take n texts) given × WentIn old new (printed_of board show given) sent
-AnswersTexts board name known show texts old new (Err fault.NoFolder) = (known ≡ None) × Keeps old new
-AnswersTexts board name known show texts old new (Err fault.Memory) = Keeps old new
-AnswersTexts board name known show texts old new (Err _) = ⊥
+abbrev pub AnswersStrings : Shape → List ℕ → Option Files → Show → List (List ℕ) → Option (List ℕ) → Option (List ℕ) → Result ℕ Fault → Type 0
+AnswersStrings board name known show strings old new (Ok refused) =
+    (given : Given) × AreGiven board name known show strings given × Appends old new (output_of board show given) × (refused ≡ count_up_to (count_refused given))
+AnswersStrings board name known show strings old new (Err (fault.Write sent)) =
+    (n : ℕ) × (given : Given) × AreGiven board name known show (take n strings) given × WentIn old new (output_of board show given) sent
+AnswersStrings board name known show strings old new (Err fault.NoFolder) = (known ≡ None) × Keeps old new
+AnswersStrings board name known show strings old new (Err fault.Memory) = Keeps old new
+AnswersStrings board name known show strings old new (Err _) = ⊥
 
 -- What the command answers: that there is no board of the name, with nothing printed; otherwise
 -- what it answers on the board.
 abbrev pub AnswersLookup : Option Shape → List ℕ → Option Files → Show → List (List ℕ) → Option (List ℕ) → Option (List ℕ) → Result ℕ Fault → Type 0
-AnswersLookup None name known show texts old new result = (result ≡ Err fault.Board) × Keeps old new
-AnswersLookup (Some board) name known show texts old new result = AnswersTexts board name known show texts old new result
+AnswersLookup None name known show strings old new result = (result ≡ Err fault.Board) × Keeps old new
+AnswersLookup (Some board) name known show strings old new result = AnswersStrings board name known show strings old new result

@@ -14,12 +14,12 @@ use Rattle.morris_jobs.specs.declared.fault.Fault.TheVariants as fault
 use Rattle.morris_jobs.specs.Answering.{OnBoard, OnRead}
 use Rattle.morris_jobs.specs.Counted.{AnswersStated, PrintsTallies}
 use Rattle.morris_jobs.specs.PairText.{read_pair_of}
-use Rattle.morris_queries.specs.declared.ask.Question.{Question}
-use Rattle.morris_queries.specs.declared.ask.Question.TheVariants.{Counts as Counting, Positions}
+use Rattle.morris_queries.specs.declared.file_questions.Question.{Question}
+use Rattle.morris_queries.specs.declared.file_questions.Question.TheVariants.{Counts as Counting, Positions}
 use Rattle.morris_queries.specs.declared.find.Shown.{Shown}
 use Rattle.morris_queries.specs.declared.wanted.Wanted.{Wanted}
 use Rattle.morris_queries.specs.Found.{AnswersFind, IsInGame, PrintsFound}
-use Rattle.morris_queries.specs.Telling.{table_in}
+use Rattle.morris_queries.specs.Reports.{table_in}
 use Rattle.morris_queries.specs.Wanted.{ReadsWanted}
 
 -- the entries of an open file: their codes, where its bytes are known, and whether no read of them

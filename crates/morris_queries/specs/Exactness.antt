@@ -5,7 +5,7 @@ use Rattle.std.specs.List.{Contains}
 use Rattle.morris_board.specs.Boards.{Shape}
 use Rattle.morris_board.specs.Positions.{Sides}
 use Rattle.morris_index.specs.Pairs.{Counts, pair_of}
-use Rattle.morris_moves.specs.declared.step.Move.{Move}
+use Rattle.morris_moves.specs.declared.game_move.Move.{Move}
 use Rattle.morris_moves.specs.Rules.{moves_of, result_of}
 use Rattle.morris_pairs.specs.declared.value.Value.{Value}
 use Rattle.morris_pairs.specs.Codes.{IsValue}
@@ -15,12 +15,12 @@ use Rattle.morris_probe.specs.Best.{AreBest, after_best}
 use Rattle.morris_lookup.specs.declared.outcomes.Outcome.{Outcome}
 use Rattle.morris_lookup.specs.Lines.{IsBestStep}
 use Rattle.morris_lookup.specs.Lookups.{depth_of}
-use Rattle.morris_lookup.specs.Outcomes.{turned}
+use Rattle.morris_lookup.specs.Outcomes.{value_for_mover}
 use Rattle.morris_files.specs.Files.{Files}
 use Rattle.morris_files.specs.Names.{name_of}
 use Rattle.morris_queries.specs.declared.show.Show.{Show}
 use Rattle.morris_queries.specs.declared.show.Show.TheVariants as show
-use Rattle.morris_queries.specs.Telling.{Played, Telling}
+use Rattle.morris_queries.specs.Reports.{Played, PositionReport}
 
 -- what stands under the name of a pair's file is the file of an exact table of the pair
 abbrev pub IsExactBytes : Shape → Counts → List ℕ → Type 0
@@ -50,7 +50,7 @@ AreExactIn board name files _ s = AreExactNear board name files s
 
 -- a move leads to this value: that of the position after it, turned round
 abbrev pub LeadsTo : Shape → Sides → Outcome → Type 0
-LeadsTo board s o = (next : Value) × IsValue board (result_of s o.step) next × (o.value ≡ turned next)
+LeadsTo board s o = (next : Value) × IsValue board (result_of s o.step) next × (o.value ≡ value_for_mover next)
 
 -- A line of best play from a position of this value: each move is a best one, the value falls by
 -- one ply with each, the one that is told of the position after it is its own, and the line ends at
@@ -60,12 +60,12 @@ IsBestLine board s value [] = depth_of value ≡ 0
 IsBestLine board s value (ply ∷ line) =
     IsBestStep board s (ply.step, ply.after) × (after_best value ≡ Some ply.value) × IsValue board ply.after ply.value × IsBestLine board ply.after ply.value line
 
-abbrev pub HasLine : Shape → Show → Sides → Telling → Type 0
+abbrev pub HasLine : Shape → Show → Sides → PositionReport → Type 0
 HasLine board show.Line s t = IsBestLine board s t.value t.line
 HasLine board _ s t = t.line ≡ []
 
 -- what is told is the game's
-pub record IsGame (board : Shape) (show : Show) (s : Sides) (t : Telling) : Type 0 where
+pub record IsGame (board : Shape) (show : Show) (s : Sides) (t : PositionReport) : Type 0 where
   pub value : IsValue board s t.value
   pub best : AreBest board s t.best
   pub leads : (o : Outcome) → Contains t.outcomes o → LeadsTo board s o

@@ -4,7 +4,7 @@ use Rattle.std.specs.Borrow.{GName}
 use Rattle.morris_board.specs.Boards.{Shape}
 use Rattle.morris_files.specs.Files.{Files}
 use Rattle.morris_queries.specs.declared.values.Folder.{Folder}
-use Rattle.morris_queries.specs.Telling.{AreOf}
+use Rattle.morris_queries.specs.Reports.{AreOf}
 
 module _ {B L F : Type 0} where
   -- the library that the files are found in
@@ -26,9 +26,9 @@ module _ {B L F : Type 0} where
     -- the same folder, of which more files may be open
     pub record Stays (old new : Folder B L F) : Type 0 where
       pub same : lent_of new ≡ lent_of old
-      pub kept : files_of (library_of new) ≡ files_of (library_of old)
+      pub unchanged : files_of (library_of new) ≡ files_of (library_of old)
       pub still : (name : List ℕ) (known : Option Files) → IsOf name known old → IsOf name known new
 
     -- what holds of a folder whose files are known, by the name of the board and by the files
-    abbrev pub Tells : Folder B L F → (List ℕ → Files → Type 0) → Type 0
-    Tells folder holds = (name : List ℕ) (files : Files) → IsOf name (Some files) folder → holds name files
+    abbrev pub HoldsFor : Folder B L F → (List ℕ → Files → Type 0) → Type 0
+    HoldsFor folder holds = (name : List ℕ) (files : Files) → IsOf name (Some files) folder → holds name files

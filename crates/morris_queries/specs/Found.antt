@@ -18,9 +18,9 @@ use Rattle.morris_jobs.specs.declared.fault.Fault.{Fault}
 use Rattle.morris_jobs.specs.declared.fault.Fault.TheVariants as fault
 use Rattle.morris_jobs.specs.Faults.{Prints}
 use Rattle.morris_queries.specs.declared.find.Shown.{Shown}
-use Rattle.morris_queries.specs.declared.find.Shown.TheVariants.{Texts, Count}
+use Rattle.morris_queries.specs.declared.find.Shown.TheVariants.{Strings, Count}
 use Rattle.morris_board.specs.declared.streams.printer.Printer.{Printer}
-use Rattle.morris_board.specs.Printers.{Takes, failed_of}
+use Rattle.morris_board.specs.Printers.{Takes, has_failed_of}
 use Rattle.morris_queries.specs.declared.wanted.Kind.{Kind}
 use Rattle.morris_queries.specs.declared.wanted.Wanted.{Wanted}
 use Rattle.morris_queries.specs.declared.wanted.Wanted.TheVariants.{Every, Deepest}
@@ -94,7 +94,7 @@ found_text board positions = flat_map (λ s. line (text_of board s)) positions
 -- The texts of the positions that are found, as many of them as there may be, or of the first of
 -- these where a write failed; or how many there are, as a line.
 abbrev pub PrintsFound : {T : Type 0} → Shape → (Sides → ℕ → Type 0) → (Kind → Sides → Type 0) → (Sides → ℕ) → Wanted → Shown → Option (List ℕ) → Option (List ℕ) → Result T Fault → Type 0
-PrintsFound board says asked entry wanted (Texts most) old new result =
+PrintsFound board says asked entry wanted (Strings most) old new result =
     (kinds : Option Kind × Option Kind) × (n : ℕ) × (positions : List Sides) × AreKinds says wanted kinds × (n ≤ most) × (IsOk result → n ≡ most)
     × AreOfBoth asked entry n kinds positions × Prints old new (found_text board positions) result
 PrintsFound board says asked entry wanted Count old new result =
@@ -103,7 +103,7 @@ PrintsFound board says asked entry wanted Count old new result =
 
 -- some texts, or some number, were printed
 abbrev pub PrintsAny : {T : Type 0} → Shape → Shown → Option (List ℕ) → Option (List ℕ) → Result T Fault → Type 0
-PrintsAny board (Texts most) old new result = (positions : List Sides) × Prints old new (found_text board positions) result
+PrintsAny board (Strings most) old new result = (positions : List Sides) × Prints old new (found_text board positions) result
 PrintsAny board Count old new result = (count : ℕ) × Prints old new (number_line [] count) result
 
 -- of entries whose codes are known: what they state
@@ -121,7 +121,7 @@ AreFirstFound says asked entry wanted most positions =
 -- known those of the first that are found.
 abbrev pub PrintsBefore : Shape → CodedEntries → Bool → Wanted → Shown → Option (List ℕ) → Option (List ℕ) → Type 0
 PrintsBefore board entries all wanted Count old new = Keeps old new
-PrintsBefore board entries all wanted (Texts most) old new =
+PrintsBefore board entries all wanted (Strings most) old new =
     Keeps old new
     ⊎ ((positions : List Sides) × Appends old new (found_text board positions)
     × IfSome entries.stated (λ known. AreFirstFound (has_shown board (table_of entries known) all) (IsStated board (table_of entries known) all)
@@ -150,10 +150,10 @@ AreFoundTo are most positions result failed = (n : ℕ) × (n ≤ most) × (IsOk
 
 -- what is answered by what went out and by whether all codes were read: of a write that failed
 -- first
-abbrev pub ended : Result ℕ ℕ → Result (Unit {0}) Failed → Result (Unit {0}) Fault
-ended (Err sent) read = Err (fault.Write sent)
-ended (Ok sent) (Err why) = Err fault.Read
-ended (Ok sent) (Ok done) = Ok tt
+abbrev pub end_of : Result ℕ ℕ → Result (Unit {0}) Failed → Result (Unit {0}) Fault
+end_of (Err sent) read = Err (fault.Write sent)
+end_of (Ok sent) (Err why) = Err fault.Read
+end_of (Ok sent) (Ok done) = Ok tt
 
 module _ {S : Type 0} (contents : S → Option (List ℕ)) (failures : S → ℕ) (board : Shape) where
   -- The texts of the positions of an entry went in, so many of them at most, and the answer is how
@@ -174,7 +174,7 @@ module _ {S : Type 0} (contents : S → Option (List ℕ)) (failures : S → ℕ
     pub takes : Takes contents failures old new (found_text board positions)
     pub rest : IfOk result (λ left. left ≡ most - length positions)
     pub found : IfSome entries.stated (λ known. AreFoundTo (λ n ps. AreOf (IsStated board (table_of entries known) all)
-        (entry_index board board.points entries.layout entries.pair) n kind ps) most positions result (failed_of new))
+        (entry_index board board.points entries.layout entries.pair) n kind ps) most positions result (has_failed_of new))
 
   -- the same of both kinds, one after the other
   pub record PutsKinds {T : Type 0} (entries : CodedEntries) (all : Bool) (kinds : Option Kind × Option Kind) (most : ℕ) (old new : Printer S) (result : Result T Failed) : Type 0 where
@@ -182,4 +182,4 @@ module _ {S : Type 0} (contents : S → Option (List ℕ)) (failures : S → ℕ
     pub few : length positions ≤ 2 ^ 51
     pub takes : Takes contents failures old new (found_text board positions)
     pub found : IfSome entries.stated (λ known. AreFoundTo (λ n ps. AreOfBoth (IsStated board (table_of entries known) all)
-        (entry_index board board.points entries.layout entries.pair) n kinds ps) most positions result (failed_of new))
+        (entry_index board board.points entries.layout entries.pair) n kinds ps) most positions result (has_failed_of new))

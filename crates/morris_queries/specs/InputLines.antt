@@ -22,14 +22,14 @@ is_passed_over [] = true
 is_passed_over (b ∷ text) = nat_eq b 35
 
 -- the texts of these lines, but for those that are passed over
-abbrev pub texts_of : List (List ℕ) → List (List ℕ)
-texts_of lines = filter (λ text. not (is_passed_over text)) (map text_in lines)
+abbrev pub strings_of : List (List ℕ) → List (List ℕ)
+strings_of lines = filter (λ text. not (is_passed_over text)) (map text_in lines)
 
 -- the texts of the lines that end within bytes, but for those that are passed over
-abbrev pub texts_ended : List ℕ → List (List ℕ)
-texts_ended bytes = texts_of (whole_lines [] bytes)
+abbrev pub strings_ended : List ℕ → List (List ℕ)
+strings_ended bytes = strings_of (whole_lines [] bytes)
 
 -- the texts of all lines of an input, of which the last ends there as before a line feed, but for
 -- those that are passed over
-abbrev pub texts_in : List ℕ → List (List ℕ)
-texts_in bytes = texts_ended (bytes ++ 10 ∷ [])
+abbrev pub strings_in : List ℕ → List (List ℕ)
+strings_in bytes = strings_ended (bytes ++ 10 ∷ [])

@@ -1,6 +1,6 @@
 pub mod Folders
 pub mod Libraries
-pub mod Telling
+pub mod Reports
 pub mod Exactness
 pub mod Printing
 pub mod Answers

@@ -6,20 +6,20 @@ use Rattle.morris_files.specs.Files.{Files}
 use Rattle.morris_jobs.specs.declared.fault.Fault.{Fault}
 use Rattle.morris_jobs.specs.declared.fault.Fault.TheVariants as fault
 use Rattle.morris_queries.specs.declared.show.Show.{Show}
-use Rattle.morris_queries.specs.declared.texts.Tally.{Tally}
-use Rattle.morris_queries.specs.Answers.{AnswersTexts, AreOut}
-use Rattle.morris_queries.specs.InputLines.{begun_after, texts_ended, texts_in}
+use Rattle.morris_queries.specs.declared.strings.Tally.{Tally}
+use Rattle.morris_queries.specs.Answers.{AnswersStrings, AreOut}
+use Rattle.morris_queries.specs.InputLines.{begun_after, strings_ended, strings_in}
 
 -- These bytes were read: the answers to the lines that end in them went out, and the first bytes of
 -- the line that is begun after those are kept.
 pub record IsReadTo (board : Shape) (name : List ℕ) (known : Option Files) (show : Show) (read : List ℕ) (old new : Option (List ℕ)) (line : List ℕ) (tally : Tally) : Type 0 where
-  pub kept : line ≡ take 26 (begun_after [] read)
-  pub out : AreOut board name known show (texts_ended read) old new tally
+  pub retained : line ≡ take 26 (begun_after [] read)
+  pub out : AreOut board name known show (strings_ended read) old new tally
 
 -- why it stops: a write failed, of the answers to the first of these texts
 abbrev pub StopsIn : Shape → List ℕ → Option Files → Show → List (List ℕ) → Option (List ℕ) → Option (List ℕ) → Fault → Type 0
-StopsIn board name known show texts old new (fault.Write sent) = AnswersTexts board name known show texts old new (Err (fault.Write sent))
-StopsIn board name known show texts old new _ = ⊥
+StopsIn board name known show strings old new (fault.Write sent) = AnswersStrings board name known show strings old new (Err (fault.Write sent))
+StopsIn board name known show strings old new _ = ⊥
 
 -- What the call for the lines of an input answers: of the input some bytes were read. Done: it is
 -- at its end, and the answers to all its lines went out. A read failed: the answers to all lines
@@ -28,11 +28,11 @@ StopsIn board name known show texts old new _ = ⊥
 -- nothing went out.
 abbrev pub AnswersLines : Shape → List ℕ → Option Files → Show → Option (List ℕ) → Option (List ℕ) → Option (List ℕ) → Option (List ℕ) → Result ℕ Fault → Type 0
 AnswersLines board name known show before after old new (Ok refused) =
-    (read : List ℕ) × Consumes before after read × IsAtEnd after × AnswersTexts board name known show (texts_in read) old new (Ok refused)
+    (read : List ℕ) × Consumes before after read × IsAtEnd after × AnswersStrings board name known show (strings_in read) old new (Ok refused)
 AnswersLines board name known show before after old new (Err fault.Read) =
-    (read : List ℕ) × Consumes before after read × ((refused : ℕ) × AnswersTexts board name known show (texts_ended read) old new (Ok refused))
+    (read : List ℕ) × Consumes before after read × ((refused : ℕ) × AnswersStrings board name known show (strings_ended read) old new (Ok refused))
 AnswersLines board name known show before after old new (Err (fault.Write sent)) =
-    (read : List ℕ) × Consumes before after read × AnswersTexts board name known show (texts_in read) old new (Err (fault.Write sent))
+    (read : List ℕ) × Consumes before after read × AnswersStrings board name known show (strings_in read) old new (Err (fault.Write sent))
 AnswersLines board name known show before after old new (Err fault.Memory) = Keeps before after × Keeps old new
 AnswersLines board name known show before after old new (Err _) = ⊥
 

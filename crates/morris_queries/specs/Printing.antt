@@ -6,7 +6,7 @@ use Rattle.hex.specs.Hex.{encode_lower}
 use Rattle.morris_board.specs.Boards.{Shape}
 use Rattle.morris_board.specs.Positions.{text_of}
 use Rattle.morris_moves.specs.MoveText.{move_text}
-use Rattle.morris_moves.specs.declared.step.Move.{Move}
+use Rattle.morris_moves.specs.declared.game_move.Move.{Move}
 use Rattle.morris_pairs.specs.declared.value.Value.{Value}
 use Rattle.morris_pairs.specs.declared.value.Value.TheVariants.{Draw, Won, Lost}
 use Rattle.morris_probe.specs.Lines.{number_line}
@@ -15,7 +15,7 @@ use Rattle.morris_jobs.specs.declared.fault.Fault.{Fault}
 use Rattle.morris_jobs.specs.Faults.{fault_line}
 use Rattle.morris_queries.specs.declared.show.Show.{Show}
 use Rattle.morris_queries.specs.declared.show.Show.TheVariants as show
-use Rattle.morris_queries.specs.Telling.{Played, Telling}
+use Rattle.morris_queries.specs.Reports.{Played, PositionReport}
 
 -- `draw`, `won in D` or `lost in D`
 abbrev pub value_text : Value → List ℕ
@@ -24,13 +24,13 @@ value_text (Won depth) = codes "won in " ++ decimal depth
 value_text (Lost depth) = codes "lost in " ++ decimal depth
 
 -- a move after a blank
-abbrev pub spaced : Move → List ℕ
-spaced m = codes " " ++ move_text m
+abbrev pub with_space : Move → List ℕ
+with_space m = codes " " ++ move_text m
 
 -- the best moves after a colon, and nothing where there are none
 abbrev pub best_text : List Move → List ℕ
 best_text [] = []
-best_text (m ∷ ms) = codes ":" ++ flat_map spaced (m ∷ ms)
+best_text (m ∷ ms) = codes ":" ++ flat_map with_space (m ∷ ms)
 
 -- A byte of the text that was asked about. A printable character of ASCII (32 to 126) is shown as
 -- it is, but a backslash (92) as two. Any other byte is shown as a backslash, an `x` and its two
@@ -46,7 +46,7 @@ shown_text points text =
     if nat_le (length text) points then flat_map shown_byte text else flat_map shown_byte (take points text) ++ codes " (too long)"
 
 -- the text, the value and the best moves, as a line
-unfoldable pub first_line : ℕ → List ℕ → Telling → List ℕ
+unfoldable pub first_line : ℕ → List ℕ → PositionReport → List ℕ
 first_line points text t = shown_text points text ++ (codes " " ++ value_text t.value) ++ best_text t.best ++ (10 ∷ [])
 
 -- two blanks, a move, and the value that it leads to
@@ -73,19 +73,19 @@ head_text show.Csv = codes "text,move,result,depth\n"
 head_text _ = []
 
 -- what is told of a position, with the text that was asked about
-unfoldable pub told_text : Shape → Show → List ℕ → Telling → List ℕ
-told_text board show.Best text t = first_line board.points text t
-told_text board show.Moves text t = first_line board.points text t ++ flat_map outcome_line t.outcomes
-told_text board show.Line text t = first_line board.points text t ++ flat_map (ply_line board) t.line
-told_text board show.Csv text t = flat_map (csv_line board.points text) t.outcomes
+unfoldable pub reported_text : Shape → Show → List ℕ → PositionReport → List ℕ
+reported_text board show.Best text t = first_line board.points text t
+reported_text board show.Moves text t = first_line board.points text t ++ flat_map outcome_line t.outcomes
+reported_text board show.Line text t = first_line board.points text t ++ flat_map (ply_line board) t.line
+reported_text board show.Csv text t = flat_map (csv_line board.points text) t.outcomes
 
 -- the answer to a text: what is told of the position, or the line of the fault after the text
-abbrev pub answer_text : Shape → Show → List ℕ → Result Telling Fault → List ℕ
-answer_text board show text (Ok t) = told_text board show text t
-answer_text board show text (Err refused) = shown_text board.points text ++ codes ": " ++ fault_line refused
+abbrev pub answer_string : Shape → Show → List ℕ → Result PositionReport Fault → List ℕ
+answer_string board show text (Ok t) = reported_text board show text t
+answer_string board show text (Err refused) = shown_text board.points text ++ codes ": " ++ fault_line refused
 
 -- what is told is little enough to be counted while it is printed
-pub record IsShort (t : Telling) : Type 0 where
+pub record IsShort (t : PositionReport) : Type 0 where
   pub best : length t.best ≤ 9 * 24 * 9
   pub outcomes : length t.outcomes ≤ 9 * 24 * 9
   pub line : length t.line ≤ 65535

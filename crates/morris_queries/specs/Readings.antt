@@ -5,7 +5,7 @@ use Rattle.morris_files.specs.Files.{Files}
 use Rattle.morris_jobs.specs.declared.fault.Fault.{Fault}
 use Rattle.morris_queries.specs.declared.lines.Reading.{Reading}
 use Rattle.morris_queries.specs.Folders.{IsOf, Stays}
-use Rattle.morris_queries.specs.InputLines.{texts_ended}
+use Rattle.morris_queries.specs.InputLines.{strings_ended}
 use Rattle.morris_queries.specs.LineAnswers.{IsReadTo, StopsIn}
 
 module _ {B L O F : Type 0} (board : Shape) (files_of : L → Option Files) where
@@ -28,4 +28,4 @@ module _ {B L O F : Type 0} (board : Shape) (files_of : L → Option Files) wher
     Takes old new bytes (Ok done) = (name : List ℕ) (known : Option Files) (start : Option (List ℕ)) (read : List ℕ)
         → Stands name known start read old → Stands name known start (read ++ bytes) new
     Takes old new bytes (Err refusal) = (name : List ℕ) (known : Option Files) (start : Option (List ℕ)) (read : List ℕ)
-        → Stands name known start read old → StopsIn board name known old.show (texts_ended (read ++ bytes)) start (contents new.output.now) refusal
+        → Stands name known start read old → StopsIn board name known old.show (strings_ended (read ++ bytes)) start (contents new.output.now) refusal

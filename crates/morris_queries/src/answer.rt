@@ -2,14 +2,14 @@
 ghost use Rattle.std.specs.Prelude.{◌-◌, ◌^◌, ◌<◌, ℕ, List, Option, IfOk};
 ghost use Rattle.morris_board.specs.Streams.{CountsFailure};
 ghost use Rattle.morris_files.specs.Files.{Files};
-ghost use Rattle.morris_queries.specs.Answers.{AnswersText, IsAnswer, GoesOut};
+ghost use Rattle.morris_queries.specs.Answers.{AnswersString, IsAnswer, GoesOut};
 ghost use Rattle.morris_queries.specs.Folders.{IsOf, Stays};
 ghost use Rattle.morris_queries.specs.Printing.{IsShort};
 
 use crate::library::Library;
-use crate::print::{Refused, ToldOf};
+use crate::print::{Refused, ReportLines};
+use crate::report::Report;
 use crate::show::Show;
-use crate::told::Told;
 use crate::values::Folder;
 use morris_board::board::Geometry;
 use morris_board::position::Position;
@@ -29,13 +29,13 @@ pub struct Answered {
 /// What is told of the position that a text writes.
 ///
 /// # Errors
-/// The fault of a text that is no position's; then those of [`Folder::tell`].
+/// The fault of a text that is no position's; then those of [`Folder::report`].
 #[tactic(auto, using(crate::proofs::FolderLaws::stays_laws))]
 fn answer<B: Geometry, L: Library>(
     folder: &mut Folder<'_, '_, '_, B, L>,
     text: &[u8],
     show: Show,
-) -> Result<Told<B>, Fault>
+) -> Result<Report<B>, Fault>
     ensures stays { Stays B.shape L.files folder.old folder.new }
     ensures answer { (name : List ℕ) (known : Option Files) → IsOf B.shape L.files name known folder.old → IsAnswer B.shape name known show text.now result }
     ensures few { IfOk result IsShort }
@@ -43,7 +43,7 @@ fn answer<B: Geometry, L: Library>(
     let position = Position::read(text)?;
     // The proof learns the rules of a position where its stones are read.
     let _ = position.own();
-    folder.tell(&position, show)
+    folder.report(&position, show)
 }
 
 /// Answers one text from the files of a folder, and sends the answer. With `Show::Best` it is one
@@ -54,7 +54,7 @@ fn answer<B: Geometry, L: Library>(
 ///
 /// # Errors
 /// How many bytes went out until a write failed.
-pub fn answer_text<B: Geometry, L: Library, O: Sink>(
+pub fn answer_string<B: Geometry, L: Library, O: Sink>(
     folder: &mut Folder<'_, '_, '_, B, L>,
     text: &[u8],
     show: Show,
@@ -62,13 +62,21 @@ pub fn answer_text<B: Geometry, L: Library, O: Sink>(
 ) -> Result<Answered, u64>
     requires failures { O.failures output.old < 2 ^ 64 - 1 }
     ensures stays { Stays B.shape L.files folder.old folder.new }
-    ensures answer { (name : List ℕ) (known : Option Files) → IsOf B.shape L.files name known folder.old → AnswersText B.shape name known show text.now (O.contents output.old) (O.contents output.new) result }
+    ensures answer { (name : List ℕ) (known : Option Files) → IsOf B.shape L.files name known folder.old → AnswersString B.shape name known show text.now (O.contents output.old) (O.contents output.new) result }
     ensures counted { CountsFailure (O.failures output.old) (O.failures output.new) result }
 {
     match answer(folder, text, show) {
-        Ok(told) => {
-            let told = &told;
-            send_answer(&ToldOf { text, show, told }, false, output)
+        Ok(reported) => {
+            let reported = &reported;
+            send_answer(
+                &ReportLines {
+                    text,
+                    show,
+                    reported,
+                },
+                false,
+                output,
+            )
         }
         Err(fault) => {
             let refused = Refused {

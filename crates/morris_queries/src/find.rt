@@ -4,14 +4,14 @@ ghost use Rattle.morris_pairs.specs.Counting.{table_of};
 ghost use Rattle.morris_pairs.specs.Entries.{entry_count};
 ghost use Rattle.morris_jobs.specs.Faults.{CountsWrites};
 ghost use Rattle.morris_board.specs.Printers.{Takes};
-ghost use Rattle.morris_queries.specs.Found.{AnswersFind, AreKinds, PutsEntry, PutsKind, PutsKinds, ended, found_text, has_shown, kind_sum};
+ghost use Rattle.morris_queries.specs.Found.{AnswersFind, AreKinds, PutsEntry, PutsKind, PutsKinds, end_of, found_text, has_shown, kind_sum};
 
 use crate::wanted::{Kind, Wanted, kinds_by};
 use morris_board::board::Geometry;
 use morris_board::streams::printed::Printed;
 use morris_board::streams::printer::Printer;
 use morris_board::streams::{Failed, Sink};
-use morris_index::falls::FallsOn;
+use morris_index::orbits::FallsOn;
 use morris_jobs::fault::Fault;
 use morris_jobs::print::print;
 use morris_pairs::counting::{Coded, CountFault, Entries};
@@ -23,7 +23,7 @@ use std::alloc::Global;
 #[derive(Clone, Copy, Debug, PartialEq, Eq)]
 pub enum Shown {
     /// Their texts, so many of them at most.
-    Texts(u64),
+    Strings(u64),
     /// How many there are.
     Count,
 }
@@ -60,7 +60,7 @@ pub(crate) fn find<B: Geometry, C: Coded, S: Sink>(
     ensures counted { CountsWrites (S.failures output.old) (S.failures output.new) result }
 {
     match search.shown {
-        Shown::Texts(most) => print_texts(alloc, entries, search, most, output),
+        Shown::Strings(most) => print_strings(alloc, entries, search, most, output),
         Shown::Count => print_count(alloc, entries, search, output),
     }
 }
@@ -119,7 +119,7 @@ impl Printed for Total {
 }
 
 /// Prints the texts of the positions, so many of them at most.
-fn print_texts<B: Geometry, C: Coded, S: Sink>(
+fn print_strings<B: Geometry, C: Coded, S: Sink>(
     alloc: Global,
     entries: &mut Entries<B, C>,
     search: Search,
@@ -127,18 +127,18 @@ fn print_texts<B: Geometry, C: Coded, S: Sink>(
     output: &mut S,
 ) -> Result<(), Fault>
     requires { S.failures output.old < 2 ^ 64 - 1 }
-    ensures answer { AnswersFind B.shape entries.old search.all search.wanted (Shown.Texts most) (S.contents output.old) (S.contents output.new) result }
+    ensures answer { AnswersFind B.shape entries.old search.all search.wanted (Shown.Strings most) (S.contents output.old) (S.contents output.new) result }
     ensures counted { CountsWrites (S.failures output.old) (S.failures output.new) result }
 {
     let kinds = kinds_of(alloc, entries, search)?;
     let mut out = Printer::new(output);
     let read = put_kinds(entries, kinds, search.all, most, &mut out);
-    ended(out.finish(), read)
+    end_of(out.finish(), read)
 }
 
 /// What is answered by what went out and by whether all codes were read.
-fn ended(sent: Result<u64, u64>, read: Result<(), Failed>) -> Result<(), Fault>
-    ensures { result ≡ ended sent read }
+fn end_of(sent: Result<u64, u64>, read: Result<(), Failed>) -> Result<(), Fault>
+    ensures { result ≡ end_of sent read }
 {
     match (sent, read) {
         (Err(sent), _) => Err(Fault::Write(sent)),
@@ -232,7 +232,7 @@ fn put_entry<B: Geometry, C: Coded, S: Sink>(
     // The proof learns here that the numbers of stones are those of a pair.
     let _ = entries.count();
     match entries.classes() {
-        Some(classes) if all => put_falls(classes.falls_on(entry), most, out),
+        Some(classes) if all => put_orbit(classes.falls_on(entry), most, out),
         _ => {
             put_position(out, &entries.position(entry));
             most - 1
@@ -242,16 +242,16 @@ fn put_entry<B: Geometry, C: Coded, S: Sink>(
 
 /// Puts the texts of the positions that have an entry in, so many at most, and answers how many
 /// more there may be.
-fn put_falls<B: Geometry, S: Sink>(
-    falls: FallsOn<'_, B>,
+fn put_orbit<B: Geometry, S: Sink>(
+    orbit: FallsOn<'_, B>,
     most: u64,
     out: &mut Printer<'_, S>,
 ) -> u64
-    ensures takes { Takes S.contents S.failures out.old out.new (found_text B.shape (take most falls.entry)) }
-    ensures left { result ≡ most - length falls.entry }
+    ensures takes { Takes S.contents S.failures out.old out.new (found_text B.shape (take most orbit.entry)) }
+    ensures left { result ≡ most - length orbit.entry }
 {
     let mut left = most;
-    for position in falls {
+    for position in orbit {
         if left == 0 {
             return 0;
         }

@@ -4,7 +4,7 @@
 #![tactic(auto)]
 
 pub mod answer;
-pub mod ask;
+pub mod file_questions;
 pub mod find;
 pub mod library;
 mod line;
@@ -12,9 +12,9 @@ pub mod lines;
 pub mod lookup;
 pub mod pages;
 pub mod print;
+mod report;
 pub mod show;
+pub mod strings;
 pub mod system;
-pub mod texts;
-mod told;
 pub mod values;
 pub mod wanted;

@@ -42,7 +42,7 @@ pub trait Library {
     /// Those of [`Unfound`].
     fn find(&mut self) -> Result<(), Unfound>
         ensures found { Finds (files self.old) result }
-        ensures kept { files self.new ≡ files self.old };
+        ensures unchanged { files self.new ≡ files self.old };
 
     /// Opens the file of this name; `None` where there isn't one.
     ///
@@ -51,5 +51,5 @@ pub trait Library {
     /// can't be opened as a file.
     fn open(&mut self, name: &str) -> Result<Option<Self::Bytes>, Reason>
         ensures opened { Opens Self.Bytes.contents (files self.old) name.now result }
-        ensures kept { files self.new ≡ files self.old };
+        ensures unchanged { files self.new ≡ files self.old };
 }

@@ -6,10 +6,10 @@ use arrayvec::ArrayVec;
 
 /// How many bytes of a line are kept: the longest text of a position, a carriage return after it,
 /// and one more, by which a line that is too long is known.
-pub(crate) const KEPT: usize = 26;
+pub(crate) const RETAINED: usize = 26;
 
 /// Takes in the next byte of a line. One past those that are kept is passed over.
-pub(crate) fn take_in(line: &mut ArrayVec<u8, KEPT>, byte: u8)
+pub(crate) fn take_in(line: &mut ArrayVec<u8, RETAINED>, byte: u8)
     ensures { (begun : List ℕ) → line.old.items ≡ take 26 begun → line.new.items ≡ take 26 (begun ++ byte ∷ []) }
 {
     if !line.is_full() {

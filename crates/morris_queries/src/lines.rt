@@ -7,11 +7,11 @@ ghost use Rattle.morris_queries.specs.Folders.{IsOf};
 ghost use Rattle.morris_queries.specs.LineAnswers.{AnswersFound, AnswersLines, CountsReads};
 ghost use Rattle.morris_queries.specs.Readings.{Stands, StaysOf, Takes};
 
-use crate::answer::answer_text;
+use crate::answer::answer_string;
 use crate::library::Library;
-use crate::line::{KEPT, is_passed_over, take_in, text_of};
+use crate::line::{RETAINED, is_passed_over, take_in, text_of};
 use crate::show::Show;
-use crate::texts::Tally;
+use crate::strings::Tally;
 use crate::values::{Folder, no_files};
 use arrayvec::ArrayVec;
 use morris_board::board::Geometry;
@@ -20,7 +20,7 @@ use morris_jobs::fault::Fault;
 use std::alloc::Global;
 
 /// How many bytes are read at a time, at most.
-const PIECE: usize = 4096;
+const CHUNK: usize = 4096;
 
 /// The reading of an input, and the answers to the lines that have ended in it.
 #[derive(Drop)]
@@ -34,7 +34,7 @@ struct Reading<'n, 'l, 't, 'o, B: Geometry, L: Library, O> {
     /// How much went out.
     tally: Tally,
     /// The first bytes of the line that is being read.
-    line: ArrayVec<u8, KEPT>,
+    line: ArrayVec<u8, RETAINED>,
 }
 
 #[tactic(auto, using(crate::proofs::ReadingLaws::reading_laws))]
@@ -92,7 +92,7 @@ impl<'n, 'l, 't, 'o, B: Geometry, L: Library, O: Sink> Reading<'n, 'l, 't, 'o, B
     {
         let text = text_of(self.line.as_slice());
         if !is_passed_over(text) {
-            let answered = answer_text(&mut self.folder, text, self.show, self.output);
+            let answered = answer_string(&mut self.folder, text, self.show, self.output);
             self.tally.take(answered)?;
         }
         self.line.clear();
@@ -131,13 +131,13 @@ impl<'n, 'l, 't, 'o, B: Geometry, L: Library, O: Sink> Reading<'n, 'l, 't, 'o, B
         ensures counted { CountsWrites (O.failures self.old.output.now) (O.failures self.new.output.now) result }
     {
         for _ in 0..u64::MAX {
-            let mut piece = [0; PIECE];
-            match input.read(&mut piece) {
+            let mut chunk = [0; CHUNK];
+            match input.read(&mut chunk) {
                 Ok(0) => {
                     self.end_line()?;
                     return Ok(self.tally.refused);
                 }
-                Ok(count) => self.take_bytes(&piece[..count])?,
+                Ok(count) => self.take_bytes(&chunk[..count])?,
                 Err(Failed) => return Err(Fault::Read),
             }
         }
@@ -145,7 +145,7 @@ impl<'n, 'l, 't, 'o, B: Geometry, L: Library, O: Sink> Reading<'n, 'l, 't, 'o, B
     }
 }
 
-/// Answers the lines of an input, each as [`answer_text`] answers its text, and counts those that
+/// Answers the lines of an input, each as [`answer_string`] answers its text, and counts those that
 /// are answered by a fault. A line ends before a line feed, and a carriage return there is passed
 /// over; a last line needs no line feed. A line that is empty then, or begins with `#`, is passed
 /// over: there is no answer to it, and nothing is counted.
@@ -169,7 +169,7 @@ pub fn answer_lines<B: Geometry, L: Library, I: Source, O: Sink>(
 ) -> Result<u64, Fault>
     requires reading { I.failures input.old < 2 ^ 64 - 1 }
     requires writing { O.failures output.old < 2 ^ 64 - 1 }
-    ensures kept { L.files library.new ≡ L.files library.old }
+    ensures unchanged { L.files library.new ≡ L.files library.old }
     ensures answer { AnswersFound B.shape board.now (L.files library.old) show (I.remaining input.old) (I.remaining input.new) (O.contents output.old) (O.contents output.new) result }
     ensures unread { result ≡ Err Fault.NoFolder → input.new ≡ input.old }
     ensures reads { CountsReads (I.remaining input.old) (I.remaining input.new) (I.failures input.old) (I.failures input.new) result }

@@ -8,7 +8,7 @@ ghost use Rattle.morris_queries.specs.LineAnswers.{AnswersInput, CountsReads};
 use crate::library::Library;
 use crate::lines::answer_lines;
 use crate::show::Show;
-use crate::texts::answer_texts;
+use crate::strings::answer_strings;
 use morris_board::streams::{Sink, Source};
 use morris_jobs::fault::Fault;
 use morris_jobs::on_board;
@@ -16,7 +16,7 @@ use std::alloc::Global;
 
 /// Answers texts of positions on the board named `board`, each in turn, from the table files of a
 /// library, and counts those that are answered by a fault. What an answer is,
-/// [`answer_text`](crate::answer::answer_text) says. A file is opened when a position first needs
+/// [`answer_string`](crate::answer::answer_text) says. A file is opened when a position first needs
 /// it, and stays open.
 ///
 /// # Errors
@@ -24,22 +24,22 @@ use std::alloc::Global;
 /// place of the files isn't there; then [`Fault::Memory`] where there is no room for the
 /// places of open files; in these cases nothing was written. [`Fault::Write`], with the bytes
 /// that went out, at the first write that fails.
-pub fn lookup_texts<L: Library, O: Sink>(
+pub fn lookup_strings<L: Library, O: Sink>(
     alloc: Global,
     board: &str,
     library: &mut L,
-    texts: &[&str],
+    strings: &[&str],
     show: Show,
     output: &mut O,
 ) -> Result<u64, Fault>
     requires failures { O.failures output.old < 2 ^ 64 - 1 }
-    ensures kept { L.files library.new ≡ L.files library.old }
-    ensures answer { AnswersLookup (board_of board.now) board.now (L.files library.old) show (map (λ text. text.now) texts.now) (O.contents output.old) (O.contents output.new) result }
+    ensures unchanged { L.files library.new ≡ L.files library.old }
+    ensures answer { AnswersLookup (board_of board.now) board.now (L.files library.old) show (map (λ text. text.now) strings.now) (O.contents output.old) (O.contents output.new) result }
     ensures counted { CountsWrites (O.failures output.old) (O.failures output.new) result }
 {
     on_board!(
         board,
-        answer_texts::<L, O>(alloc, board, library, texts, show, output)
+        answer_strings::<L, O>(alloc, board, library, strings, show, output)
     )
 }
 
@@ -60,7 +60,7 @@ pub fn lookup_lines<L: Library, I: Source, O: Sink>(
 ) -> Result<u64, Fault>
     requires reading { I.failures input.old < 2 ^ 64 - 1 }
     requires writing { O.failures output.old < 2 ^ 64 - 1 }
-    ensures kept { L.files library.new ≡ L.files library.old }
+    ensures unchanged { L.files library.new ≡ L.files library.old }
     ensures answer { AnswersInput (board_of board.now) board.now (L.files library.old) show (I.remaining input.old) (I.remaining input.new) (O.contents output.old) (O.contents output.new) result }
     ensures unread { result ≡ Err Fault.Board → input.new ≡ input.old }
     ensures unfound { result ≡ Err Fault.NoFolder → input.new ≡ input.old }

@@ -11,7 +11,7 @@ use std::os::unix::fs::FileExt;
 /// How many bytes a page has, and how many pages of a file are kept.
 const PAGE: u64 = 4096;
 
-const KEPT: u64 = 16;
+const CACHED_PAGES: u64 = 16;
 
 /// A file of which the pages that were read last are kept. The positions after the moves of one
 /// position have their entries near one another, so that most of them need no call of the system.
@@ -39,8 +39,8 @@ impl PagedFile {
     pub fn new(alloc: Global, file: File) -> Result<PagedFile, AllocError>
         ensures { IfOk result (λ paged. paged.file ≡ file) }
     {
-        let mut pages = Vec::with_capacity(alloc, KEPT as usize)?;
-        for _ in 0..KEPT {
+        let mut pages = Vec::with_capacity(alloc, CACHED_PAGES as usize)?;
+        for _ in 0..CACHED_PAGES {
             pages.push(Page {
                 number: u64::MAX,
                 count: 0,
@@ -68,8 +68,8 @@ impl Storage for PagedFile {
 
     fn read_at(&self, place: u64, out: &mut [u8]) -> Result<(), Failed> {
         if let Ok(mut pages) = self.pages.try_borrow_mut() {
-            // Pages whose numbers differ by a multiple of `KEPT` have one place in turn.
-            if let Some(page) = (*pages).get_mut((place / PAGE % KEPT) as usize) {
+            // Pages whose numbers differ by a multiple of `CACHED_PAGES` have one place in turn.
+            if let Some(page) = (*pages).get_mut((place / PAGE % CACHED_PAGES) as usize) {
                 if page.read(&self.file, place, out) {
                     return Ok(());
                 }

@@ -2,11 +2,11 @@
 ghost use Rattle.std.specs.Prelude.{ℕ, ◌∷◌, ◌++◌, [], List, codes};
 ghost use Rattle.std.specs.List.{flat_map};
 ghost use Rattle.hex.specs.Hex.{encode_lower};
-ghost use Rattle.morris_queries.specs.Printing.{best_text, csv_line, csv_value, first_line, outcome_line, ply_line, shown_byte, shown_text, spaced, value_text};
+ghost use Rattle.morris_queries.specs.Printing.{best_text, csv_line, csv_value, first_line, outcome_line, ply_line, shown_byte, shown_text, with_space, value_text};
 ghost use Rattle.morris_board.specs.Printers.{Takes};
 
+use crate::report::{Ply, Report};
 use crate::show::Show;
-use crate::told::{Ply, Told};
 use hex::encode_to_slice;
 use morris_board::board::Geometry;
 use morris_board::streams::Sink;
@@ -15,7 +15,7 @@ use morris_board::streams::printer::Printer;
 use morris_jobs::fault::Fault;
 use morris_jobs::print_fault::put_fault;
 use morris_lookup::outcomes::Outcome;
-use morris_moves::step::Move;
+use morris_moves::game_move::Move;
 use morris_pairs::value::Value;
 use morris_probe::print::{put_count, put_move, put_number_line, put_text};
 
@@ -66,7 +66,7 @@ fn put_escaped<S: Sink>(out: &mut Printer<'_, S>, byte: u8)
 
 /// In the list of the best moves.
 impl Listed for Move {
-    ghost text = { spaced };
+    ghost text = { with_space };
 
     fn put_listed<S: Sink>(&self, out: &mut Printer<'_, S>) {
         out.put(" ");
@@ -146,12 +146,12 @@ fn put_shown<S: Sink>(out: &mut Printer<'_, S>, points: u8, text: &[u8])
 }
 
 /// The text, the value and the best moves, as a line.
-fn put_first_line<B: Geometry, S: Sink>(out: &mut Printer<'_, S>, text: &[u8], told: &Told<B>)
-    ensures { Takes S.contents S.failures out.old out.new (first_line B.POINTS text.now told.now) }
+fn put_first_line<B: Geometry, S: Sink>(out: &mut Printer<'_, S>, text: &[u8], reported: &Report<B>)
+    ensures { Takes S.contents S.failures out.old out.new (first_line B.POINTS text.now reported.now) }
 {
     put_shown(out, B::POINTS, text);
-    put_value(out, told.value());
-    put_best(out, told.best());
+    put_value(out, reported.value());
+    put_best(out, reported.best());
     out.put("\n");
 }
 
@@ -188,35 +188,35 @@ fn put_csv<S: Sink>(out: &mut Printer<'_, S>, points: u8, text: &[u8], outcomes:
 
 /// What is told of a position, with the text that was asked about.
 #[derive(Drop)]
-pub(crate) struct ToldOf<'a, B: Geometry> {
+pub(crate) struct ReportLines<'a, B: Geometry> {
     /// The text.
     pub(crate) text: &'a [u8],
     /// What is shown.
     pub(crate) show: Show,
     /// What is told.
-    pub(crate) told: &'a Told<B>,
+    pub(crate) reported: &'a Report<B>,
 }
 
-#[tactic(auto, using(morris_board::proofs::PrinterLaws::takes_laws), unfolding(crate::specs::Printing::told_text))]
-impl<B: Geometry> Printed for ToldOf<'_, B> {
-    ghost use Rattle.morris_queries.specs.Printing.{told_text, IsShort};
+#[tactic(auto, using(morris_board::proofs::PrinterLaws::takes_laws), unfolding(crate::specs::Printing::reported_text))]
+impl<B: Geometry> Printed for ReportLines<'_, B> {
+    ghost use Rattle.morris_queries.specs.Printing.{reported_text, IsShort};
 
-    ghost bytes = { λ answer. told_text B.shape answer.show answer.text.now answer.told.now };
+    ghost bytes = { λ answer. reported_text B.shape answer.show answer.text.now answer.reported.now };
 
-    ghost is_short = { λ answer. IsShort answer.told.now };
+    ghost is_short = { λ answer. IsShort answer.reported.now };
 
     fn put_into<S: Sink>(&self, out: &mut Printer<'_, S>) {
         match self.show {
-            Show::Best => put_first_line(out, self.text, self.told),
+            Show::Best => put_first_line(out, self.text, self.reported),
             Show::Moves => {
-                put_first_line(out, self.text, self.told);
-                put_list(out, self.told.outcomes());
+                put_first_line(out, self.text, self.reported);
+                put_list(out, self.reported.outcomes());
             }
             Show::Line => {
-                put_first_line(out, self.text, self.told);
-                put_list(out, self.told.line());
+                put_first_line(out, self.text, self.reported);
+                put_list(out, self.reported.line());
             }
-            Show::Csv => put_csv(out, B::POINTS, self.text, self.told.outcomes()),
+            Show::Csv => put_csv(out, B::POINTS, self.text, self.reported.outcomes()),
         }
     }
 }

@@ -4,9 +4,9 @@ ghost use Rattle.morris_lookup.specs.FileSets.{file_for, missing_file};
 ghost use Rattle.morris_lookup.specs.Lookups.{depth_of};
 ghost use Rattle.morris_files.specs.Files.{Files};
 ghost use Rattle.morris_jobs.specs.Faults.{is_write};
-ghost use Rattle.morris_queries.specs.Folders.{IsOf, Stays, Tells, lent_of, library_of};
+ghost use Rattle.morris_queries.specs.Folders.{IsOf, Stays, HoldsFor, lent_of, library_of};
 ghost use Rattle.morris_queries.specs.Libraries.{IsFound};
-ghost use Rattle.morris_queries.specs.Telling.{Agrees, AreOf, opened_as, table_in, told_value};
+ghost use Rattle.morris_queries.specs.Reports.{Agrees, AreOf, open_as, table_in, reported_value};
 
 use crate::library::Library;
 use morris_board::board::Geometry;
@@ -64,7 +64,7 @@ impl<'n, 'l, 't, B: Geometry, L: Library> Folder<'n, 'l, 't, B, L> {
     fn open_file(&mut self, pair: Pair<B>) -> Result<Opened<B, L::Bytes>, Fault>
         ensures stays { Stays B.shape L.files self.old self.new }
         ensures pair { IfOk result (λ file. file.pair ≡ pair) }
-        ensures opened { Tells B.shape L.files self.old (λ name files. Agrees result (table_in B.shape name files pair)) }
+        ensures opened { HoldsFor B.shape L.files self.old (λ name files. Agrees result (table_in B.shape name files pair)) }
         ensures unwritten { IfErr result (λ refused. is_write refused ≡ false) }
     {
         let name = file_name(self.alloc, self.board, pair)?;
@@ -82,7 +82,7 @@ impl<'n, 'l, 't, B: Geometry, L: Library> Folder<'n, 'l, 't, B, L> {
     pub(crate) fn make_ready(&mut self, pair: Pair<B>) -> Result<(), Fault>
         ensures stays { Stays B.shape L.files self.old self.new }
         ensures ready { OnOk result (IsSome (file_for self.new.tables.now pair)) }
-        ensures refused { Tells B.shape L.files self.old (λ name files. IfErr result (λ refused. Agrees (Err refused) (table_in B.shape name files pair))) }
+        ensures refused { HoldsFor B.shape L.files self.old (λ name files. IfErr result (λ refused. Agrees (Err refused) (table_in B.shape name files pair))) }
         ensures unwritten { IfErr result (λ refused. is_write refused ≡ false) }
     {
         if self.tables.get(pair).is_none() {
@@ -99,7 +99,7 @@ impl<'n, 'l, 't, B: Geometry, L: Library> Folder<'n, 'l, 't, B, L> {
     fn make_ready_for(&mut self, position: &Position<B>) -> Result<(), Fault>
         ensures stays { Stays B.shape L.files self.old self.new }
         ensures ready { OnOk result (missing_file self.new.tables.now position.now ≡ None) }
-        ensures refused { Tells B.shape L.files self.old (λ name files. IfErr result (λ refused. Agrees (Err refused) (told_value B.shape name files position.now))) }
+        ensures refused { HoldsFor B.shape L.files self.old (λ name files. IfErr result (λ refused. Agrees (Err refused) (reported_value B.shape name files position.now))) }
     {
         match Pair::of(position) {
             None => Ok(()),
@@ -114,7 +114,7 @@ impl<'n, 'l, 't, B: Geometry, L: Library> Folder<'n, 'l, 't, B, L> {
     /// Those of the opening of the file; [`Fault::Read`] where it can't be read.
     pub(crate) fn value(&mut self, position: &Position<B>) -> Result<Value, Fault>
         ensures stays { Stays B.shape L.files self.old self.new }
-        ensures told { Tells B.shape L.files self.old (λ name files. Agrees result (told_value B.shape name files position.now)) }
+        ensures reported { HoldsFor B.shape L.files self.old (λ name files. Agrees result (reported_value B.shape name files position.now)) }
         ensures few { IfOk result (λ value. depth_of value ≤ 65534) }
     {
         self.make_ready_for(position)?;
@@ -137,7 +137,7 @@ fn open_found<B: Geometry, S: Storage + Drop>(
     pair: Pair<B>,
 ) -> Result<Opened<B, S>, Fault>
     ensures pair { IfOk result (λ file. file.pair ≡ pair) }
-    ensures opened { (stored : Option (List ℕ)) → IsFound S.contents stored found → Agrees result (opened_as B.shape pair stored) }
+    ensures opened { (stored : Option (List ℕ)) → IsFound S.contents stored found → Agrees result (open_as B.shape pair stored) }
     ensures unwritten { IfErr result (λ refused. is_write refused ≡ false) }
 {
     match found {

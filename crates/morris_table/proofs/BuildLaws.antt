@@ -15,7 +15,7 @@ use Rattle.morris_pairs.specs.Orders.{Order}
 use Rattle.morris_pairs.specs.PairNets.{level_in, level_of, net_at}
 use Rattle.morris_pairs.specs.Shelves.{Stored, first_missing}
 use Rattle.morris_pairs.specs.Tables.{Table, IsTable}
-use Rattle.morris_table.specs.Building.{IsUnbuilt, MayWantMemory, solved}
+use Rattle.morris_table.specs.Building.{IsUnbuilt, MayWantMemory, build_fault_of}
 
 -- memory may be wanting in either layout once the numbers are in range
 late_memory : (l : Layout) (range : Option SolveFault) → range ≡ None → MayWantMemory l range
@@ -41,7 +41,7 @@ module _ (board : Shape) (c : Counts) (l : Layout) (o : Order)
 
   -- a refusal of the workers is one of the build
   pub refused_by_workers : (B : Type 0) (shelf : Stored) (workers blocks : ℕ) (fault : SolveFault) → first_missing shelf c ≡ None
-      → IsRefusal (net_at board (level_in o c)) workers blocks fault → IsUnbuilt {B = B} board shelf l c workers blocks (solved fault)
+      → IsRefusal (net_at board (level_in o c)) workers blocks fault → IsUnbuilt {B = B} board shelf l c workers blocks (build_fault_of fault)
   refused_by_workers B shelf workers blocks solve.Workers ready h = (ready, h)
   refused_by_workers B shelf workers blocks solve.Blocks ready h = (ready, h)
   refused_by_workers B shelf workers blocks solve.Memory ready h = (ready, late_memory l (range_fault workers blocks) h)

@@ -30,9 +30,9 @@ IsUnbuilt board shelf l c workers blocks (Missing number) = (first_missing shelf
 IsUnbuilt board shelf l c workers blocks TooDeep = (first_missing shelf c ≡ None) × (range_fault workers blocks ≡ None) × IsPastCodes board l c
 
 -- what a refusal of the workers is here
-abbrev pub solved : {B : Type 0} → SolveFault → BuildFault B
-solved solve.Workers = Workers
-solved solve.Blocks = Blocks
-solved solve.Memory = Memory
-solved (solve.Missing number) = Missing number
-solved solve.TooDeep = TooDeep
+abbrev pub build_fault_of : {B : Type 0} → SolveFault → BuildFault B
+build_fault_of solve.Workers = Workers
+build_fault_of solve.Blocks = Blocks
+build_fault_of solve.Memory = Memory
+build_fault_of (solve.Missing number) = Missing number
+build_fault_of solve.TooDeep = TooDeep

@@ -4,8 +4,8 @@ ghost use Rattle.morris_wave.specs.Blocks.{BlockState};
 ghost use Rattle.morris_workers.specs.Ranges.{range_fault};
 ghost use Rattle.morris_pairs.specs.Shelves.{first_missing};
 ghost use Rattle.morris_pairs.specs.Building.{IsBuilt};
-ghost use Rattle.morris_table.specs.Building.{IsUnbuilt, solved};
-ghost use Rattle.morris_pairs.specs.Headline.{IsBlockIn, IsBlockOf, TellsIn, TellsTheGame};
+ghost use Rattle.morris_table.specs.Building.{IsUnbuilt, build_fault_of};
+ghost use Rattle.morris_pairs.specs.Headline.{IsBlockIn, IsBlockOf, StatesIn, StatesTheGame};
 ghost use Rattle.morris_pairs.specs.Orders.{Order};
 
 use morris_board::board::{Board, Geometry};
@@ -18,7 +18,7 @@ use morris_pairs::layout::Layout;
 use morris_pairs::row_graph::RowGraph;
 use morris_pairs::shelf::Shelf;
 use morris_pairs::table_set::TableSet;
-use morris_workers::{Gate, SHORT_NODES, SolveFault, Unwatched, Watch, solve_with};
+use morris_workers::{Gate, NoProgress, SHORT_NODES, SolveFault, Watch, solve_with};
 use std::alloc::Global;
 use std::sync::Wait;
 use std::thread::Threads;
@@ -34,8 +34,8 @@ pub fn is_by_rows<B: Geometry>(pair: Pair<B>) -> bool
 }
 
 /// Why a table isn't made whose graph the workers didn't solve.
-fn unbuilt<B: Geometry>(fault: SolveFault) -> BuildFault<B>
-    ensures { result ≡ solved fault }
+fn to_build_fault<B: Geometry>(fault: SolveFault) -> BuildFault<B>
+    ensures { result ≡ build_fault_of fault }
 {
     match fault {
         SolveFault::Workers => BuildFault::Workers,
@@ -74,7 +74,7 @@ pub fn build<B: Board, A: Gate, R: Threads + Wait + Sync>(
     ensures refused { IfErr result (IsUnbuilt B.shape shelf.now Layout.Full pair workers blocks) }
     // Whenever a block's lock is free, each decided entry is the game's value and exact depth at
     // its position and the tallies count the entries.
-    ensures whenever { (s : BlockState) → IsBlockOf B.shape Layout.Full pair s → TellsTheGame B.shape Layout.Full pair s }
+    ensures whenever { (s : BlockState) → IsBlockOf B.shape Layout.Full pair s → StatesTheGame B.shape Layout.Full pair s }
 {
     let layout = Layout::Full;
     build_as(rt, alloc, shelf, pair, layout, gate, workers, blocks)
@@ -103,9 +103,9 @@ pub fn build_as<B: Board, A: Gate, R: Threads + Wait + Sync>(
     ensures refused { IfErr result (IsUnbuilt B.shape shelf.now layout pair workers blocks) }
     // Whenever a block's lock is free, each decided entry is the game's value and exact depth at
     // its position and the tallies count the entries.
-    ensures whenever { (o : Order) (s : BlockState) → IsBlockIn B.shape o pair s → TellsIn B.shape o pair s }
+    ensures whenever { (o : Order) (s : BlockState) → IsBlockIn B.shape o pair s → StatesIn B.shape o pair s }
 {
-    let watch = &mut Unwatched;
+    let watch = &mut NoProgress;
     let tables = shelf.tables();
     build_watched(
         rt, alloc, tables, pair, layout, gate, watch, workers, blocks,
@@ -135,7 +135,7 @@ pub fn build_watched<B: Board, A: Gate, V: Watch, R: Threads + Wait + Sync>(
     ensures refused { IfErr result (IsUnbuilt B.shape tables.now layout pair workers blocks) }
     // Whenever a block's lock is free, each decided entry is the game's value and exact depth at
     // its position and the tallies count the entries.
-    ensures whenever { (o : Order) (s : BlockState) → IsBlockIn B.shape o pair s → TellsIn B.shape o pair s }
+    ensures whenever { (o : Order) (s : BlockState) → IsBlockIn B.shape o pair s → StatesIn B.shape o pair s }
     // The watch is as it may be after it was told, whatever the answer.
     ensures watched { V.becomes watch.old watch.new }
 {
@@ -163,13 +163,13 @@ fn build_by_positions<B: Board, A: Gate, V: Watch, R: Threads + Wait + Sync>(
     ensures range { OnOk result (range_fault workers blocks ≡ None) }
     ensures exact { IfOk result (IsBuilt B.shape Layout.Full pair) }
     ensures refused { IfErr result (IsUnbuilt B.shape tables.now Layout.Full pair workers blocks) }
-    ensures whenever { (o : Order) (s : BlockState) → IsBlockIn B.shape o pair s → TellsIn B.shape o pair s }
+    ensures whenever { (o : Order) (s : BlockState) → IsBlockIn B.shape o pair s → StatesIn B.shape o pair s }
     ensures watched { V.becomes watch.old watch.new }
 {
     let graph = PairGraph::over(tables, pair)?;
     match solve_with(rt, alloc, &graph, gate, workers, blocks, SHORT_NODES, watch) {
         Ok(codes) => Ok(graph.into_table(codes)),
-        Err(fault) => Err(unbuilt(fault)),
+        Err(fault) => Err(to_build_fault(fault)),
     }
 }
 
@@ -188,13 +188,13 @@ fn build_by_classes<B: Board, A: Gate, V: Watch, R: Threads + Wait + Sync>(
     ensures range { OnOk result (range_fault workers blocks ≡ None) }
     ensures exact { IfOk result (IsBuilt B.shape Layout.Classes pair) }
     ensures refused { IfErr result (IsUnbuilt B.shape tables.now Layout.Classes pair workers blocks) }
-    ensures whenever { (o : Order) (s : BlockState) → IsBlockIn B.shape o pair s → TellsIn B.shape o pair s }
+    ensures whenever { (o : Order) (s : BlockState) → IsBlockIn B.shape o pair s → StatesIn B.shape o pair s }
     ensures watched { V.becomes watch.old watch.new }
 {
     let graph = ClassGraph::over(alloc, tables, pair)?;
     match solve_with(rt, alloc, &graph, gate, workers, blocks, SHORT_NODES, watch) {
         Ok(codes) => Ok(graph.into_table(codes)),
-        Err(fault) => Err(unbuilt(fault)),
+        Err(fault) => Err(to_build_fault(fault)),
     }
 }
 
@@ -215,12 +215,12 @@ fn build_by_rows<B: Board, A: Gate, V: Watch, R: Threads + Wait + Sync>(
     ensures range { OnOk result (range_fault workers blocks ≡ None) }
     ensures exact { IfOk result (IsBuilt B.shape Layout.Classes pair) }
     ensures refused { IfErr result (IsUnbuilt B.shape tables.now Layout.Classes pair workers blocks) }
-    ensures whenever { (o : Order) (s : BlockState) → IsBlockIn B.shape o pair s → TellsIn B.shape o pair s }
+    ensures whenever { (o : Order) (s : BlockState) → IsBlockIn B.shape o pair s → StatesIn B.shape o pair s }
     ensures watched { V.becomes watch.old watch.new }
 {
     let graph = RowGraph::over(alloc, tables, pair)?;
     match solve_with(rt, alloc, &graph, gate, workers, blocks, SHORT_NODES, watch) {
         Ok(codes) => Ok(graph.into_table(rt, alloc, codes, workers)?),
-        Err(fault) => Err(unbuilt(fault)),
+        Err(fault) => Err(to_build_fault(fault)),
     }
 }

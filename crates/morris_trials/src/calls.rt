@@ -7,7 +7,7 @@ use morris_board::streams::{FromRead, IntoWrite};
 use morris_commands::probe::probe_in;
 use morris_commands::stats::stats;
 use morris_commands::verify_in::verify_in;
-use morris_engine_tests::told::{mark, tell};
+use morris_engine_tests::printing::{mark, print_answer};
 use morris_jobs::fault::Fault;
 use std::alloc::Global;
 
@@ -21,7 +21,7 @@ fn tell_printed(rt: &impl Print, call: &str, when: &str, (answer, printed): Prin
         return None;
     }
     let text = String::from_utf8(printed).ok()?;
-    tell(rt, call, when, &answer.map(|_| text))
+    print_answer(rt, call, when, &answer.map(|_| text))
 }
 
 /// A sink that asks for no memory: it has room for all that a command prints.

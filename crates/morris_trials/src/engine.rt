@@ -1,7 +1,7 @@
 //! The calls on graphs and their blocks.
 ghost use Rattle.std.specs.Prelude.{◌≡◌, ◌<◌};
 
-use morris_engine_tests::told::{mark, or_refused, tell};
+use morris_engine_tests::printing::{mark, or_refused, print_answer};
 use morris_engine_tests::{PairGraph, Pairs, advance, blocks_after};
 use morris_wave::{Batch, Block, Cut, Graph, gather, scatter, sweep};
 use morris_workers::{Tickets, Yard};
@@ -17,8 +17,8 @@ pub(crate) fn sweeps(rt: &impl Print, alloc: Global) -> Option<()> {
     mark(alloc)?;
     let first = sweep(alloc, &PAIR);
     mark(alloc)?;
-    tell(rt, "sweep", "first", &first)?;
-    tell(rt, "sweep", "again", &sweep(alloc, &PAIR))
+    print_answer(rt, "sweep", "first", &first)?;
+    print_answer(rt, "sweep", "again", &sweep(alloc, &PAIR))
 }
 
 pub(crate) fn makes_a_block(rt: &impl Print, alloc: Global) -> Option<()> {
@@ -26,8 +26,8 @@ pub(crate) fn makes_a_block(rt: &impl Print, alloc: Global) -> Option<()> {
     mark(alloc)?;
     let first = second_block(alloc, &cut);
     mark(alloc)?;
-    tell(rt, "make", "first", &first)?;
-    tell(rt, "make", "again", &second_block(alloc, &cut))
+    print_answer(rt, "make", "first", &first)?;
+    print_answer(rt, "make", "again", &second_block(alloc, &cut))
 }
 
 /// What block 1 of a cut shows.
@@ -70,7 +70,7 @@ pub(crate) fn lists_fresh_nodes(rt: &impl Print, alloc: Global) -> Option<()> {
     let first = block.fresh(alloc);
     mark(alloc)?;
     let first = or_refused(first);
-    tell(
+    print_answer(
         rt,
         "fresh",
         "first",
@@ -78,7 +78,7 @@ pub(crate) fn lists_fresh_nodes(rt: &impl Print, alloc: Global) -> Option<()> {
     )?;
     println!(rt; "fresh after: {:?}", shown(block)).ok()?;
     let again = or_refused(block.fresh(alloc));
-    tell(
+    print_answer(
         rt,
         "fresh",
         "again",
@@ -125,8 +125,8 @@ pub(crate) fn gathers(rt: &impl Print, alloc: Global) -> Option<()> {
     mark(alloc)?;
     let first = gather(alloc, 0, 43, &cut, &blocks);
     mark(alloc)?;
-    tell(rt, "gather", "first", &first)?;
-    tell(rt, "gather", "again", &gather(alloc, 0, 43, &cut, &blocks))
+    print_answer(rt, "gather", "first", &first)?;
+    print_answer(rt, "gather", "again", &gather(alloc, 0, 43, &cut, &blocks))
 }
 
 /// How many blocks a yard of these gives back.
@@ -140,17 +140,17 @@ pub(crate) fn makes_a_yard(rt: &impl Print, alloc: Global) -> Option<()> {
     mark(alloc)?;
     let first = Yard::new(alloc, blocks);
     mark(alloc)?;
-    tell(rt, "yard", "first", &or_refused(first).map(given_back))?;
+    print_answer(rt, "yard", "first", &or_refused(first).map(given_back))?;
     let again = Yard::new(alloc, others);
-    tell(rt, "yard", "again", &or_refused(again).map(given_back))
+    print_answer(rt, "yard", "again", &or_refused(again).map(given_back))
 }
 
 pub(crate) fn makes_tickets(rt: &impl Print, alloc: Global) -> Option<()> {
     mark(alloc)?;
     let first = seat_count(alloc);
     mark(alloc)?;
-    tell(rt, "tickets", "first", &first)?;
-    tell(rt, "tickets", "again", &seat_count(alloc))
+    print_answer(rt, "tickets", "first", &first)?;
+    print_answer(rt, "tickets", "again", &seat_count(alloc))
 }
 
 /// How many seats are made that share five tickets.

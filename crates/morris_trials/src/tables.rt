@@ -5,7 +5,7 @@ use morris_board::grid::Grid;
 use morris_board::position::Position;
 use morris_board::streams::{FromRead, IntoWrite};
 use morris_engine_tests::digests::BY_CLASSES;
-use morris_engine_tests::told::{mark, or_refused, tell};
+use morris_engine_tests::printing::{mark, or_refused, print_answer};
 use morris_index::class_pair::ClassPair;
 use morris_index::classes::Classes;
 use morris_index::pair::Pair;
@@ -111,12 +111,12 @@ fn goes_back_in(rt: &impl Print, alloc: Global, graph: &PairGraph<'_, Grid>) -> 
     let first = graph.back(981, &mut list);
     mark(alloc)?;
     let first = or_refused(first).map(|_| list.as_slice());
-    tell(rt, "back", "first", &first)?;
+    print_answer(rt, "back", "first", &first)?;
     if first.is_err() {
         println!(rt; "back left: {:?}", list.as_slice()).ok()?;
     }
     let again = or_refused(graph.back(981, &mut list));
-    tell(rt, "back", "again", &again.map(|_| list.as_slice()))
+    print_answer(rt, "back", "again", &again.map(|_| list.as_slice()))
 }
 
 pub(crate) fn makes_a_shelf(rt: &impl Print, alloc: Global) -> Option<()> {
@@ -125,9 +125,9 @@ pub(crate) fn makes_a_shelf(rt: &impl Print, alloc: Global) -> Option<()> {
     mark(alloc)?;
     let pair = Pair::new(3, 3).ok()?;
     let first = or_refused(first).map(|shelf| shelf.get(pair).is_none());
-    tell(rt, "shelf", "first", &first)?;
+    print_answer(rt, "shelf", "first", &first)?;
     let again = or_refused(Shelf::<Grid>::new(alloc));
-    tell(
+    print_answer(
         rt,
         "shelf",
         "again",
@@ -144,8 +144,8 @@ pub(crate) fn makes_classes(rt: &impl Print, alloc: Global) -> Option<()> {
     mark(alloc)?;
     let first = class_count(alloc);
     mark(alloc)?;
-    tell(rt, "classes", "first", &first)?;
-    tell(rt, "classes", "again", &class_count(alloc))
+    print_answer(rt, "classes", "first", &first)?;
+    print_answer(rt, "classes", "again", &class_count(alloc))
 }
 
 /// How many entries of classes a pair has that are made.
@@ -158,8 +158,8 @@ pub(crate) fn makes_entries_of_classes(rt: &impl Print, alloc: Global) -> Option
     mark(alloc)?;
     let first = entry_count(alloc, pair);
     mark(alloc)?;
-    tell(rt, "class_pair", "first", &first)?;
-    tell(rt, "class_pair", "again", &entry_count(alloc, pair))
+    print_answer(rt, "class_pair", "first", &first)?;
+    print_answer(rt, "class_pair", "again", &entry_count(alloc, pair))
 }
 
 pub(crate) fn counts_codes(rt: &impl Print, alloc: Global) -> Option<()> {
@@ -168,8 +168,8 @@ pub(crate) fn counts_codes(rt: &impl Print, alloc: Global) -> Option<()> {
     mark(alloc)?;
     let first = table.tallies(alloc);
     mark(alloc)?;
-    tell(rt, "tallies", "first", &or_refused(first))?;
-    tell(rt, "tallies", "again", &or_refused(table.tallies(alloc)))
+    print_answer(rt, "tallies", "first", &or_refused(first))?;
+    print_answer(rt, "tallies", "again", &or_refused(table.tallies(alloc)))
 }
 
 /// How many entries the table has that is read from a file.
@@ -182,8 +182,8 @@ fn reads(rt: &impl Print, alloc: Global, call: &str, file: &[u8]) -> Option<()> 
     mark(alloc)?;
     let first = length_read(alloc, file);
     mark(alloc)?;
-    tell(rt, call, "first", &first)?;
-    tell(rt, call, "again", &length_read(alloc, file))
+    print_answer(rt, call, "first", &first)?;
+    print_answer(rt, call, "again", &length_read(alloc, file))
 }
 
 pub(crate) fn reads_a_table(rt: &impl Print, alloc: Global) -> Option<()> {
@@ -243,9 +243,9 @@ pub(crate) fn reads_the_next_table(rt: &impl Print, alloc: Global) -> Option<()>
     mark(alloc)?;
     let first = next_length(alloc, file.as_slice());
     mark(alloc)?;
-    tell(rt, "read_next", "first", &first)?;
+    print_answer(rt, "read_next", "first", &first)?;
     let again = next_length(alloc, file.as_slice());
-    tell(rt, "read_next", "again", &again)
+    print_answer(rt, "read_next", "again", &again)
 }
 
 pub(crate) fn finds_best_moves(rt: &impl Print, alloc: Global) -> Option<()> {
@@ -254,7 +254,7 @@ pub(crate) fn finds_best_moves(rt: &impl Print, alloc: Global) -> Option<()> {
     mark(alloc)?;
     let first = best(alloc, &shelf, &position);
     mark(alloc)?;
-    tell(rt, "best", "first", &first.map(|moves| moves.len()))?;
+    print_answer(rt, "best", "first", &first.map(|moves| moves.len()))?;
     tell_shelf(rt, "best", &shelf)?;
     match best(alloc, &shelf, &position) {
         Ok(moves) => {
@@ -275,10 +275,10 @@ pub(crate) fn reports(rt: &impl Print, alloc: Global) -> Option<()> {
     mark(alloc)?;
     let (first, written) = reported(alloc, room, &shelf, &position);
     mark(alloc)?;
-    tell(rt, "report", "first", &first.map(|_| written.len()))?;
+    print_answer(rt, "report", "first", &first.map(|_| written.len()))?;
     let (again, written) = reported(alloc, Vec::new(alloc), &shelf, &position);
     let text = String::from_utf8(written).ok()?;
-    tell(rt, "report", "again", &again.map(|_| text))
+    print_answer(rt, "report", "again", &again.map(|_| text))
 }
 
 /// What the prober says of a position into this room, and what it writes.
@@ -299,7 +299,7 @@ pub(crate) fn makes_a_graph_of_classes(rt: &impl Print, alloc: Global) -> Option
     mark(alloc)?;
     let first = ClassGraph::new(alloc, &shelf, pair).map(|graph| graph.size());
     mark(alloc)?;
-    tell(rt, "class_graph", "first", &first)?;
+    print_answer(rt, "class_graph", "first", &first)?;
     let again = ClassGraph::new(alloc, &shelf, pair).map(|graph| graph.size());
-    tell(rt, "class_graph", "again", &again)
+    print_answer(rt, "class_graph", "again", &again)
 }

@@ -1,7 +1,7 @@
 //! The calls that build a table by several workers.
 use crate::tables::{tell_shelf, tell_table};
 use morris_board::grid::Grid;
-use morris_engine_tests::told::mark;
+use morris_engine_tests::printing::mark;
 use morris_index::pair::Pair;
 use morris_pairs::layout::Layout;
 use morris_pairs::shelf::Shelf;

@@ -5,8 +5,8 @@ use Rattle.std.proofs.lemmas.Bool.{false≢true, both_ways, true_from_ne_false}
 use Rattle.std.proofs.lemmas.Bool.Decides.{nat_tests}
 use Rattle.morris_wave.specs.Nets.{Net}
 use Rattle.morris_wave.specs.Exits.{is_odd, exits_of, exits_lost, exits_won}
-use Rattle.morris_wave.specs.Values.{is_lost, is_won}
-use Rattle.morris_wave.specs.Waves.{known_lost, known_won, entry_at, open_at, is_fresh, settles, marked}
+use Rattle.morris_wave.specs.Values.{is_lost_before, is_won_before}
+use Rattle.morris_wave.specs.Waves.{known_lost, known_won, entry_at, open_at, is_fresh, settles, mark_code}
 use Rattle.morris_wave.proofs.Tests.{any_or, any_same, counts_add, some_counted}
 use Rattle.morris_wave.proofs.Depths.{lost_more, won_more, apart, lost_parity, won_parity}
 use Rattle.morris_wave.proofs.Known.{entry_step, decided_parts, open_same}
@@ -32,19 +32,19 @@ gone w w' a x apart = grind arith
 
 module _ (g : Net) (n j : ℕ) where
   -- at an odd code no node is newly won, at an even one none newly lost
-  not_won_new : is_odd (suc n) ≡ true → is_won g (suc n) j ≡ true → is_won g n j ≡ true
-  not_won_new odd h = true_from_ne_false (is_won g n j) (λ e. both_ways (is_odd (suc n)) (won_parity g n j h e) odd)
+  not_won_new : is_odd (suc n) ≡ true → is_won_before g (suc n) j ≡ true → is_won_before g n j ≡ true
+  not_won_new odd h = true_from_ne_false (is_won_before g n j) (λ e. both_ways (is_odd (suc n)) (won_parity g n j h e) odd)
 
-  not_lost_new : is_odd (suc n) ≡ false → is_lost g (suc n) j ≡ true → is_lost g n j ≡ true
-  not_lost_new even h = true_from_ne_false (is_lost g n j) (λ e. both_ways (is_odd (suc n)) even (lost_parity g n j h e))
+  not_lost_new : is_odd (suc n) ≡ false → is_lost_before g (suc n) j ≡ true → is_lost_before g n j ≡ true
+  not_lost_new even h = true_from_ne_false (is_lost_before g n j) (λ e. both_ways (is_odd (suc n)) even (lost_parity g n j h e))
 
-  fresh_lost : is_odd (suc n) ≡ true → is_fresh g (suc n) j ≡ (not (is_lost g n j) && is_lost g (suc n) j)
+  fresh_lost : is_odd (suc n) ≡ true → is_fresh g (suc n) j ≡ (not (is_lost_before g n j) && is_lost_before g (suc n) j)
   unfolding is_fresh
-  fresh_lost odd = new_is_lost (is_lost g n j) (is_lost g (suc n) j) (is_won g n j) (is_won g (suc n) j) (won_more g n j) (apart g (suc n) j) (not_won_new odd)
+  fresh_lost odd = new_is_lost (is_lost_before g n j) (is_lost_before g (suc n) j) (is_won_before g n j) (is_won_before g (suc n) j) (won_more g n j) (apart g (suc n) j) (not_won_new odd)
 
-  fresh_won : is_odd (suc n) ≡ false → is_fresh g (suc n) j ≡ (not (is_won g n j) && is_won g (suc n) j)
+  fresh_won : is_odd (suc n) ≡ false → is_fresh g (suc n) j ≡ (not (is_won_before g n j) && is_won_before g (suc n) j)
   unfolding is_fresh
-  fresh_won even = new_is_won (is_lost g n j) (is_lost g (suc n) j) (is_won g n j) (is_won g (suc n) j) (lost_more g n j) (apart g (suc n) j) (not_lost_new even)
+  fresh_won even = new_is_won (is_lost_before g n j) (is_lost_before g (suc n) j) (is_won_before g n j) (is_won_before g (suc n) j) (lost_more g n j) (apart g (suc n) j) (not_lost_new even)
 
 -- what one part more, `x`, makes known of a node
 module _ (g : Net) (a x : ℕ → Bool) (j : ℕ) where
@@ -52,18 +52,18 @@ module _ (g : Net) (a x : ℕ → Bool) (j : ℕ) where
   unfolding known_lost
   lost_known zero odd = absurd (false≢true odd)
   lost_known (suc n) odd =
-      joined (is_lost g n j) (is_lost g (suc n) j) (a j) (x j)
+      joined (is_lost_before g n j) (is_lost_before g (suc n) j) (a j) (x j)
       ∙ ap (λ f. known_lost g (suc n) a j || (x j && f)) (sym (fresh_lost g n j odd))
 
   won_same : (n : ℕ) → is_odd n ≡ true → known_won g n (λ k. a k || x k) j ≡ known_won g n a j
   unfolding known_won
   won_same zero odd = refl
-  won_same (suc n) odd = unmoved (is_won g n j) (is_won g (suc n) j) (a j) (x j) (not_won_new g n j odd)
+  won_same (suc n) odd = unmoved (is_won_before g n j) (is_won_before g (suc n) j) (a j) (x j) (not_won_new g n j odd)
 
   lost_same : (n : ℕ) → is_odd n ≡ false → known_lost g n (λ k. a k || x k) j ≡ known_lost g n a j
   unfolding known_lost
   lost_same zero even = refl
-  lost_same (suc n) even = unmoved (is_lost g n j) (is_lost g (suc n) j) (a j) (x j) (not_lost_new g n j even)
+  lost_same (suc n) even = unmoved (is_lost_before g n j) (is_lost_before g (suc n) j) (a j) (x j) (not_lost_new g n j even)
 
   won_counted : (n : ℕ) → is_odd n ≡ false → (x j ≡ true → a j ≡ false)
       → cond {A = ℕ} (not (known_won g n a j)) 1 0 ≡ cond {A = ℕ} (not (known_won g n (λ k. a k || x k) j)) 1 0 + cond {A = ℕ} (x j && is_fresh g n j) 1 0
@@ -74,7 +74,7 @@ module _ (g : Net) (a x : ℕ → Bool) (j : ℕ) where
       none true = refl
       none false = refl
   won_counted (suc n) even apart =
-      gone (is_won g n j) (is_won g (suc n) j) (a j) (x j) apart
+      gone (is_won_before g n j) (is_won_before g (suc n) j) (a j) (x j) apart
       ∙ ap (λ f. cond {A = ℕ} (not (known_won g (suc n) (λ k. a k || x k) j)) 1 0 + cond {A = ℕ} (x j && f) 1 0) (sym (fresh_won g n j even))
 
 swap_ends : (l t s : Bool) → ((l || t) || s) ≡ ((l || s) || t)
@@ -95,7 +95,7 @@ module _ (g : Net) (n : ℕ) (a x : ℕ → Bool) (i taken : ℕ) (counted : tak
   odd_open odd = open_same g n n (λ k. a k || x k) a i (λ k d l. won_same g a x _ n odd)
 
   -- they are lost: each node that leads to one of them is won
-  pub odd_entry : is_odd n ≡ true → entry_at g n (λ k. a k || x k) i ≡ marked (entry_at g n a i) (ltb 0 taken) (suc n)
+  pub odd_entry : is_odd n ≡ true → entry_at g n (λ k. a k || x k) i ≡ mark_code (entry_at g n a i) (ltb 0 taken) (suc n)
   odd_entry odd =
       entry_step g n a (λ k. a k || x k) i (ltb 0 taken)
       (decided_parts g n (λ k. a k || x k) i
@@ -116,7 +116,7 @@ module _ (g : Net) (n : ℕ) (a x : ℕ → Bool) (i taken : ℕ) (counted : tak
       ∙ ap (λ t. open_at g n (λ k. a k || x k) i + t) (sym counted)
 
   pub even_entry : is_odd n ≡ false → ((j : ℕ) → x j ≡ true → a j ≡ false)
-      → entry_at g n (λ k. a k || x k) i ≡ marked (entry_at g n a i) (ltb 0 taken && (eqb (open_at g n (λ k. a k || x k) i) 0 && exits_won n (exits_of (g.exits i)))) (suc n)
+      → entry_at g n (λ k. a k || x k) i ≡ mark_code (entry_at g n a i) (ltb 0 taken && (eqb (open_at g n (λ k. a k || x k) i) 0 && exits_won n (exits_of (g.exits i)))) (suc n)
   even_entry even apart =
       entry_step g n a (λ k. a k || x k) i (ltb 0 taken && (eqb (open_at g n (λ k. a k || x k) i) 0 && exits_won n (exits_of (g.exits i))))
       (decided_parts g n (λ k. a k || x k) i

@@ -11,7 +11,7 @@ use Rattle.morris_wave.specs.Lists.{list_at}
 use Rattle.morris_wave.specs.Exits.{is_odd}
 use Rattle.morris_wave.specs.Waves.{is_fresh}
 use Rattle.morris_wave.specs.Solving.{every, none}
-use Rattle.morris_wave.specs.Keeping.{StretchHolds, Takes, left_of}
+use Rattle.morris_wave.specs.NodeRanges.{NodeRangeHolds, Takes, left_of}
 use Rattle.morris_wave.specs.Counts.{AreFew}
 use Rattle.morris_wave.specs.Blocks.{Parts, IsCut, first_of, block_of, IsIn, BlockState, BlockHolds, is_complete, in_applied, count_of, first_wave, next_wave_of}
 use Rattle.morris_wave.specs.Batches.{is_from_to, BatchState, BatchHolds}
@@ -37,9 +37,9 @@ first_of-le c law k l =
 
 -- before the first wave
 pub make_holds : {g : Net} (law : IsNet g) (level number : ℕ) (cut : Parts) {first : ℕ} {codes counters : List ℕ} {due : List (List ℕ)} {last_due most : ℕ} → IsCut cut → g.size ≡ cut.size → number < cut.blocks
-    → first ≡ first_of cut number → length codes ≡ count_of (first_wave level cut number) → StretchHolds g 0 every first codes counters due last_due → AreFew g first (length codes) most
+    → first ≡ first_of cut number → length codes ≡ count_of (first_wave level cut number) → NodeRangeHolds g 0 every first codes counters due last_due → AreFew g first (length codes) most
     → BlockHolds g (first_wave level cut number) first codes counters due last_due most
-make_holds law level number cut is_cut size inside first_is count_is kept few = record {
+make_holds law level number cut is_cut size inside first_is count_is node_range few = record {
   cut = is_cut;
   size = size;
   number = inside;
@@ -48,7 +48,7 @@ make_holds law level number cut is_cut size inside first_is count_is kept few = 
   wave = omega arith;
   first_is = first_is;
   count_is = count_is;
-  kept = first_holds law (in_applied (first_wave level cut number)) kept;
+  node_range = first_holds law (in_applied (first_wave level cut number)) node_range;
   few = few;
 }
 
@@ -91,10 +91,10 @@ module _ {g : Net} (law : IsNet g) {s : BlockState} {first : ℕ} {codes counter
         (omega (arith, at.0, ap₂ first_of cut target, h.first_is), omega (arith, at.0, at.1, ap₂ first_of cut target, ap₂ (λ c t. first_of c (t + 1)) cut target, h.first_is, h.count_is))
 
     pub apply_enough : is_odd s.wave ≡ false → (k : ℕ) → k < length codes → times (first + k) b.nodes ≤ left_of (get_or counters k 0)
-    apply_enough even k l = take_enough law h.kept sent b.nodes taken apart even k l
+    apply_enough even k l = take_enough law h.node_range sent b.nodes taken apart even k l
 
     pub apply_few : is_odd s.wave ≡ false → (k : ℕ) → k < length codes → most ≤ 255 → times (first + k) b.nodes ≤ get_or counters k 0
-    apply_few even k l le = take_few law h.kept sent b.nodes taken apart even k l (omega (arith, h.few k l, le))
+    apply_few even k l le = take_few law h.node_range sent b.nodes taken apart even k l (omega (arith, h.few k l, le))
 
     source_in : b.source < length s.applied
     source_in = omega (arith, hb.source, h.sources, ap (λ c. c.blocks) cut)
@@ -136,7 +136,7 @@ module _ {g : Net} (law : IsNet g) {s : BlockState} {first : ℕ} {codes counter
       wave = h.wave;
       first_is = h.first_is;
       count_is = codes_len ∙ h.count_is;
-      kept = holds_alike law (take_holds law h.kept sent b.nodes taken apart codes' counters' codes_len counters_len small takes) (in_applied after) (λ j l. joins j);
+      node_range = holds_alike law (take_holds law h.node_range sent b.nodes taken apart codes' counters' codes_len counters_len small takes) (in_applied after) (λ j l. joins j);
       few = λ k l. h.few k (omega (arith, codes_len, l));
     }
 
@@ -147,8 +147,8 @@ module _ {g : Net} (law : IsNet g) {s : BlockState} {first : ℕ} {codes counter
         or_left (get_or s.applied (block_of s.cut j) false) (not (ltb j (get_or s.taken_from (block_of s.cut j) 0)))
         (AllPass-from_list_all (λ b. b) s.applied complete (block_of s.cut j) false (omega (arith, block_of-lt s.cut h.cut j (omega (arith, h.size, l)), h.sources)))
 
-    pub complete_holds : StretchHolds g s.wave every first codes counters due last_due
-    complete_holds = holds_alike law h.kept every all_applied
+    pub complete_holds : NodeRangeHolds g s.wave every first codes counters due last_due
+    complete_holds = holds_alike law h.node_range every all_applied
 
     pub advance_enough : s.wave < 65534 → (k : ℕ) → k < length codes → times (first + k) (list_at due (s.wave + 1)) ≤ left_of (get_or counters k 0)
     advance_enough last k l = due_enough law complete_holds last k l
@@ -175,7 +175,7 @@ module _ {g : Net} (law : IsNet g) {s : BlockState} {first : ℕ} {codes counter
       wave = omega (arith, last);
       first_is = h.first_is;
       count_is = codes_len ∙ h.count_is;
-      kept = holds_alike law (next_holds law complete_holds last codes' counters' codes_len counters_len small comes) (in_applied (next_wave_of s))
+      node_range = holds_alike law (next_holds law complete_holds last codes' counters' codes_len counters_len small comes) (in_applied (next_wave_of s))
           (λ j l. none_applied j (omega (arith, h.size, l)));
       few = λ k l. h.few k (omega (arith, codes_len, l));
     }

@@ -6,7 +6,7 @@ use Rattle.std.proofs.lemmas.Bool.{false≢true, and_parts, or_cases, or_parts, 
 use Rattle.std.proofs.lemmas.Bool.Decides.{nat_tests}
 use Rattle.morris_wave.specs.Nets.{Net}
 use Rattle.morris_wave.specs.Exits.{is_odd}
-use Rattle.morris_wave.specs.Values.{is_lost, is_won, is_decided, some_lost, all_won, is_lost_exit, is_won_exit, HasDepth, HasCode, code_within}
+use Rattle.morris_wave.specs.Values.{is_lost_before, is_won_before, is_decided, some_lost, all_won, is_lost_exit, is_won_exit, HasDepth, HasCode, code_within}
 use Rattle.morris_wave.proofs.Tests.{all_mono, any_mono, all_any, all_differ, any_differ}
 
 lost_exit_more : (n c : ℕ) → is_lost_exit n c ≡ true → is_lost_exit (suc n) c ≡ true
@@ -47,15 +47,15 @@ pub all_won_later : (g : Net) (i n : ℕ) (p q : ℕ → Bool) → ((j : ℕ) �
 all_won_later g i n p q f h = all_won_mono g i n p q (suc n) f (won_exit_more n) h
 
 mutual
-  unfolding is_lost is_won
+  unfolding is_lost_before is_won_before
 
-  pub lost_more : (g : Net) (n i : ℕ) → is_lost g n i ≡ true → is_lost g (suc n) i ≡ true
+  pub lost_more : (g : Net) (n i : ℕ) → is_lost_before g n i ≡ true → is_lost_before g (suc n) i ≡ true
   lost_more g zero i h = absurd (false≢true h)
-  lost_more g (suc n) i h = all_won_later g i n (is_won g n) (is_won g (suc n)) (won_more g n) h
+  lost_more g (suc n) i h = all_won_later g i n (is_won_before g n) (is_won_before g (suc n)) (won_more g n) h
 
-  pub won_more : (g : Net) (n i : ℕ) → is_won g n i ≡ true → is_won g (suc n) i ≡ true
+  pub won_more : (g : Net) (n i : ℕ) → is_won_before g n i ≡ true → is_won_before g (suc n) i ≡ true
   won_more g zero i h = absurd (false≢true h)
-  won_more g (suc n) i h = some_lost_later g i n (is_lost g n) (is_lost g (suc n)) (lost_more g n) h
+  won_more g (suc n) i h = some_lost_later g i n (is_lost_before g n) (is_lost_before g (suc n)) (lost_more g n) h
 
 pub decided_more : (g : Net) (n i : ℕ) → is_decided g n i ≡ true → is_decided g (suc n) i ≡ true
 decided_more g n i h = grind (arith, lost_more g n i, won_more g n i)
@@ -69,15 +69,15 @@ decided_by_then g n m i le h =
     let e : n + (m - n) ≡ m = omega arith in
     subst (λ x. is_decided g x i ≡ true) e (decided_from g n (m - n) i h)
 
-pub apart : (g : Net) (n i : ℕ) → is_lost g n i ≡ true → is_won g n i ≡ true → ⊥
-unfolding is_lost is_won
+pub apart : (g : Net) (n i : ℕ) → is_lost_before g n i ≡ true → is_won_before g n i ≡ true → ⊥
+unfolding is_lost_before is_won_before
 apart g zero i h k = false≢true h
 apart g (suc n) i h k =
-    let w = and_parts (list_all (is_won g n) (g.quiet i)) (list_all (is_won_exit n) (g.exits i)) h in
+    let w = and_parts (list_all (is_won_before g n) (g.quiet i)) (list_all (is_won_exit n) (g.exits i)) h in
     ⊎_elim
-    (λ a. all_any (is_won g n) (is_lost g n) (λ j x y. apart g n j y x) (g.quiet i) w.0 a)
+    (λ a. all_any (is_won_before g n) (is_lost_before g n) (λ j x y. apart g n j y x) (g.quiet i) w.0 a)
     (λ a. all_any (is_won_exit n) (is_lost_exit n) (exits_apart n) (g.exits i) w.1 a)
-    (or_cases (list_any (is_lost g n) (g.quiet i)) (list_any (is_lost_exit n) (g.exits i)) k)
+    (or_cases (list_any (is_lost_before g n) (g.quiet i)) (list_any (is_lost_exit n) (g.exits i)) k)
 
 -- an exit that comes due at n has the code suc n
 won_exit_new : (n c : ℕ) → is_won_exit (suc n) c ≡ true → is_won_exit n c ≡ false → is_odd (suc n) ≡ false
@@ -103,33 +103,33 @@ nothing_lost (j ∷ js) e = nothing_lost js e
 
 -- lost codes are odd and won codes are even
 mutual
-  unfolding is_lost is_won
+  unfolding is_lost_before is_won_before
 
-  pub lost_parity : (g : Net) (n i : ℕ) → is_lost g (suc n) i ≡ true → is_lost g n i ≡ false → is_odd (suc n) ≡ true
+  pub lost_parity : (g : Net) (n i : ℕ) → is_lost_before g (suc n) i ≡ true → is_lost_before g n i ≡ false → is_odd (suc n) ≡ true
   lost_parity g zero i h k = refl
   lost_parity g (suc n) i h k =
-      let w = and_parts (list_all (is_won g (suc n)) (g.quiet i)) (list_all (is_won_exit (suc n)) (g.exits i)) h in
+      let w = and_parts (list_all (is_won_before g (suc n)) (g.quiet i)) (list_all (is_won_exit (suc n)) (g.exits i)) h in
       ⊎_elim
-      (λ a. let d = all_differ (is_won g (suc n)) (is_won g n) (g.quiet i) w.0 a in
+      (λ a. let d = all_differ (is_won_before g (suc n)) (is_won_before g n) (g.quiet i) w.0 a in
       is_odd-suc (suc n) ∙ ap not (won_parity g n d.0 d.1 d.2))
       (λ a. let d = all_differ (is_won_exit (suc n)) (is_won_exit n) (g.exits i) w.1 a in
       is_odd-suc (suc n) ∙ ap not (won_exit_new n d.0 d.1 d.2))
-      (and_cases (list_all (is_won g n) (g.quiet i)) (list_all (is_won_exit n) (g.exits i)) k)
+      (and_cases (list_all (is_won_before g n) (g.quiet i)) (list_all (is_won_exit n) (g.exits i)) k)
 
-  pub won_parity : (g : Net) (n i : ℕ) → is_won g (suc n) i ≡ true → is_won g n i ≡ false → is_odd (suc n) ≡ false
+  pub won_parity : (g : Net) (n i : ℕ) → is_won_before g (suc n) i ≡ true → is_won_before g n i ≡ false → is_odd (suc n) ≡ false
   won_parity g zero i h k =
       ⊎_elim
       (λ a. absurd (nothing_lost (g.quiet i) a))
       (λ a. absurd (no_lost_exit (g.exits i) a))
-      (or_cases (list_any (is_lost g zero) (g.quiet i)) (list_any (is_lost_exit 0) (g.exits i)) h)
+      (or_cases (list_any (is_lost_before g zero) (g.quiet i)) (list_any (is_lost_exit 0) (g.exits i)) h)
   won_parity g (suc n) i h k =
-      let w = or_parts (list_any (is_lost g n) (g.quiet i)) (list_any (is_lost_exit n) (g.exits i)) k in
+      let w = or_parts (list_any (is_lost_before g n) (g.quiet i)) (list_any (is_lost_exit n) (g.exits i)) k in
       ⊎_elim
-      (λ a. let d = any_differ (is_lost g (suc n)) (is_lost g n) (g.quiet i) a w.0 in
+      (λ a. let d = any_differ (is_lost_before g (suc n)) (is_lost_before g n) (g.quiet i) a w.0 in
       is_odd-suc (suc n) ∙ ap not (lost_parity g n d.0 d.1 d.2))
       (λ a. let d = any_differ (is_lost_exit (suc n)) (is_lost_exit n) (g.exits i) a w.1 in
       is_odd-suc (suc n) ∙ ap not (lost_exit_new n d.0 d.1 d.2))
-      (or_cases (list_any (is_lost g (suc n)) (g.quiet i)) (list_any (is_lost_exit (suc n)) (g.exits i)) h)
+      (or_cases (list_any (is_lost_before g (suc n)) (g.quiet i)) (list_any (is_lost_exit (suc n)) (g.exits i)) h)
 
 -- the steps of `code_within`
 pub code_kept : (g : Net) (n i : ℕ) → is_decided g n i ≡ true → code_within g (suc n) i ≡ code_within g n i
@@ -152,7 +152,7 @@ code_open g (suc n) i h =
 
 -- nothing is decided in fewer than 0 plies
 pub none_decided : (g : Net) (i : ℕ) → is_decided g 0 i ≡ false
-unfolding is_lost is_won
+unfolding is_lost_before is_won_before
 none_decided g i = refl
 
 -- a code that is decided is the code, at most n

@@ -8,7 +8,7 @@ use Rattle.std.proofs.lemmas.List.Elements.{All-push, All-nil}
 use Rattle.std.proofs.lemmas.List.Sums.{sum_by_push}
 use Rattle.morris_wave.specs.Nets.{times}
 use Rattle.morris_wave.specs.Lists.{list_at}
-use Rattle.morris_wave.specs.Keeping.{ListsDue}
+use Rattle.morris_wave.specs.NodeRanges.{ListsDue}
 use Rattle.morris_wave.proofs.Ranks.{times_none}
 
 -- a node past those of a list isn't there

@@ -3,7 +3,7 @@ use Rattle.std.proofs.Common.{inl, inr, ◌≡◌, ℕ, zero, suc, ◌-◌, ◌<
 use Rattle.std.specs.List.{list_all, list_any, filter}
 use Rattle.std.proofs.lemmas.Bool.{false≢true, cases_Bool, and_right, eq-eqb, ne_eqb, cases_lt, lt-ltb, le-ltb}
 use Rattle.std.proofs.lemmas.Bool.Decides.{nat_tests}
-use Rattle.morris_wave.specs.Exits.{is_odd, is_won_code, least, greatest, depths, exits_of, some_below, none_from, exits_lost, exits_won}
+use Rattle.morris_wave.specs.Exits.{is_odd, is_won_code, minimum, maximum, depths, exits_of, some_below, none_from, exits_lost, exits_won}
 use Rattle.morris_wave.specs.Values.{is_lost_exit, is_won_exit}
 
 ltb-min : (n x y : ℕ) → ltb (min x y) n ≡ (ltb x n || ltb y n)
@@ -18,15 +18,15 @@ or_false b = grind arith
 pub and_true : (b : Bool) → b ≡ (b && true)
 and_true b = grind arith
 
-some_below-least : (n x : ℕ) (xs : List ℕ) → some_below n (least (x ∷ xs)) ≡ (ltb x n || some_below n (least xs))
-some_below-least n x xs = at (least xs)
+some_below-least : (n x : ℕ) (xs : List ℕ) → some_below n (minimum (x ∷ xs)) ≡ (ltb x n || some_below n (minimum xs))
+some_below-least n x xs = at (minimum xs)
   where
     at : (o : Option ℕ) → ltb (elim o [ None ↦ x | Some y ↦ min x y ]) n ≡ (ltb x n || some_below n o)
     at None = or_false (ltb x n)
     at (Some y) = ltb-min n x y
 
-none_from-greatest : (n x : ℕ) (xs : List ℕ) → none_from n (greatest (x ∷ xs)) ≡ (ltb x n && none_from n (greatest xs))
-none_from-greatest n x xs = at (greatest xs)
+none_from-greatest : (n x : ℕ) (xs : List ℕ) → none_from n (maximum (x ∷ xs)) ≡ (ltb x n && none_from n (maximum xs))
+none_from-greatest n x xs = at (maximum xs)
   where
     at : (o : Option ℕ) → ltb (elim o [ None ↦ x | Some y ↦ max x y ]) n ≡ (ltb x n && none_from n o)
     at None = and_true (ltb x n)
@@ -63,7 +63,7 @@ each_exit_won n (c ∷ cs) = elim (cases_Bool (is_odd c)) [
   | inr even ↦ elim (cases_lt 0 c) [
     | inl above ↦
         rw (even, lt-ltb 0 c above, ne_eqb c 0 (omega arith), leb-pred c n above, each_exit_won n cs, none_from-greatest n (c - 1) (depths is_won_code cs))
-        (shuffle (ltb (c - 1) n) (is_none (least (depths is_odd cs))) (not (list_any (λ x. eqb x 0) cs)) (none_from n (greatest (depths is_won_code cs))))
-    | inr zero_code ↦ rw (even, le-ltb 0 c zero_code, eq-eqb c 0 (omega arith)) (sym (and_right (is_none (least (depths is_odd cs))) false refl))
+        (shuffle (ltb (c - 1) n) (is_none (minimum (depths is_odd cs))) (not (list_any (λ x. eqb x 0) cs)) (none_from n (maximum (depths is_won_code cs))))
+    | inr zero_code ↦ rw (even, le-ltb 0 c zero_code, eq-eqb c 0 (omega arith)) (sym (and_right (is_none (minimum (depths is_odd cs))) false refl))
   ]
 ]

@@ -3,11 +3,11 @@ use Rattle.std.proofs.Common.{◌≡◌, ℕ, suc, ◌+◌, ◌-◌, min, max, B
 use Rattle.std.specs.List.{list_all}
 use Rattle.std.proofs.lemmas.Bool.{and_parts, and_from, cases_Bool, ne_eqb, cases_lt, le-ltb, ltb-true, not-true, not-false}
 use Rattle.std.proofs.lemmas.Bool.Decides.{nat_tests}
-use Rattle.morris_wave.specs.declared.network.Exits.{Exits}
+use Rattle.morris_wave.specs.declared.graph.Exits.{Exits}
 use Rattle.morris_wave.specs.Nets.{Net}
-use Rattle.morris_wave.specs.Exits.{is_odd, is_won_code, least, greatest, depths, exits_of, exits_lost, exits_won, some_below, none_from, due_of}
+use Rattle.morris_wave.specs.Exits.{is_odd, is_won_code, minimum, maximum, depths, exits_of, exits_lost, exits_won, some_below, none_from, due_of}
 use Rattle.morris_wave.specs.Waves.{open_at}
-use Rattle.morris_wave.specs.Keeping.{due_wave, pending_at}
+use Rattle.morris_wave.specs.NodeRanges.{due_wave, pending_at}
 use Rattle.morris_wave.proofs.ExitTests.{or_false, odd_above, depths_yes, depths_no}
 
 -- the wave at which exits come due, and whether one of them is lost, by parts
@@ -49,9 +49,9 @@ abbrev pub pick : (p : ℕ → Bool) → Option ℕ → Bool
 pick p None = true
 pick p (Some d) = p d
 
-pub all_least : (p : ℕ → Bool) (xs : List ℕ) → list_all p xs ≡ true → pick p (least xs) ≡ true
+pub all_least : (p : ℕ → Bool) (xs : List ℕ) → list_all p xs ≡ true → pick p (minimum xs) ≡ true
 all_least p [] h = refl
-all_least p (x ∷ xs) h = let w = and_parts (p x) (list_all p xs) h in at (least xs) w.0 (all_least p xs w.1)
+all_least p (x ∷ xs) h = let w = and_parts (p x) (list_all p xs) h in at (minimum xs) w.0 (all_least p xs w.1)
   where
     at : (o : Option ℕ) → p x ≡ true → pick p o ≡ true → p (elim o [ None ↦ x | Some y ↦ min x y ]) ≡ true
     at None a b = a
@@ -61,9 +61,9 @@ all_least p (x ∷ xs) h = let w = and_parts (p x) (list_all p xs) h in at (leas
         (λ l. let e : y ≡ min x y = omega arith in subst (λ z. p z ≡ true) e b)
         (cases_lt x y)
 
-pub all_greatest : (p : ℕ → Bool) (xs : List ℕ) → list_all p xs ≡ true → pick p (greatest xs) ≡ true
+pub all_greatest : (p : ℕ → Bool) (xs : List ℕ) → list_all p xs ≡ true → pick p (maximum xs) ≡ true
 all_greatest p [] h = refl
-all_greatest p (x ∷ xs) h = let w = and_parts (p x) (list_all p xs) h in at (greatest xs) w.0 (all_greatest p xs w.1)
+all_greatest p (x ∷ xs) h = let w = and_parts (p x) (list_all p xs) h in at (maximum xs) w.0 (all_greatest p xs w.1)
   where
     at : (o : Option ℕ) → p x ≡ true → pick p o ≡ true → p (elim o [ None ↦ x | Some y ↦ max x y ]) ≡ true
     at None a b = a

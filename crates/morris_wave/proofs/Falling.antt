@@ -5,7 +5,7 @@ use Rattle.std.proofs.lemmas.Bool.Decides.{nat_tests}
 use Rattle.std.proofs.lemmas.List.Sums.{sum_by-take-le}
 use Rattle.morris_wave.specs.Nets.{times}
 use Rattle.morris_wave.specs.Solving.{Marks, among}
-use Rattle.morris_wave.specs.Keeping.{LowersBy, left_of}
+use Rattle.morris_wave.specs.NodeRanges.{LowersBy, left_of}
 use Rattle.morris_wave.proofs.ExitTests.{and_true}
 use Rattle.morris_wave.proofs.Tests.{some_counted}
 use Rattle.morris_wave.proofs.Marking.{marks_twice, among_more, times_more}

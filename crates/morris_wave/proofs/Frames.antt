@@ -1,7 +1,7 @@
 -- Entries that stay as they are while some get their codes.
 use Rattle.std.proofs.Common.{◌≡◌, ℕ, take, refl, subst, ◌∙◌}
 use Rattle.morris_wave.specs.Frames.{SameFrame}
-use Rattle.morris_wave.specs.declared.nodes.NodeList.{Ghosts}
+use Rattle.morris_wave.specs.declared.node_list.NodeList.{Ghosts}
 use Rattle.morris_wave.specs.declared.listed.Listed.{Listed}
 
 pub frame_same : {L : Type 0} {kind : Ghosts L} (e : Listed L kind) → SameFrame e e

@@ -148,14 +148,14 @@ place_more blocks k s places inside is small h = record {
     written : (m : ℕ) → s.number ≡ m → get_or (set places s.number (Some k)) m None ≡ Some k
     written m e = subst (λ x. get_or (set places s.number (Some k)) x None ≡ Some k) e (get_or-set_same places s.number (Some k) None (omega (arith, h.len)))
 
-    kept : (m : ℕ) → (s.number ≡ m → ⊥) → get_or (set places s.number (Some k)) m None ≡ get_or places m None
-    kept m e = get_or-set_other places s.number m (Some k) None (λ z. e (sym z))
+    node_range : (m : ℕ) → (s.number ≡ m → ⊥) → get_or (set places s.number (Some k)) m None ≡ get_or places m None
+    node_range m e = get_or-set_other places s.number m (Some k) None (λ z. e (sym z))
 
     here : (m : ℕ) → s.number ≡ m → is_some (get_or (set places s.number (Some k)) m None) ≡ has_number (take (k + 1) blocks) m
     here m e = ap is_some (written m e) ∙ sym (more m ∙ or_right (has_number (take k blocks) m) (eqb s.number m) (eq-eqb s.number m e))
 
     other : (m : ℕ) → m < 1024 → (s.number ≡ m → ⊥) → is_some (get_or (set places s.number (Some k)) m None) ≡ has_number (take (k + 1) blocks) m
-    other m l e = ap is_some (kept m e) ∙ (h.came m l ∙ (or_false (has_number (take k blocks) m) ∙ sym (more m ∙ ap (λ t. has_number (take k blocks) m || t) (ne_eqb s.number m e))))
+    other m l e = ap is_some (node_range m e) ∙ (h.came m l ∙ (or_false (has_number (take k blocks) m) ∙ sym (more m ∙ ap (λ t. has_number (take k blocks) m || t) (ne_eqb s.number m e))))
 
     same_some : (a b : ℕ) → Some a ≡ Some b → a ≡ b
     same_some a b q = cc
@@ -166,7 +166,7 @@ place_more blocks k s places inside is small h = record {
         (omega arith, λ d. subst (λ x. (get_or blocks x d).number ≡ m) j (ap (λ t. t.number) (get_or_default blocks k d s inside ∙ sym is) ∙ e))
 
     at_other : (m p : ℕ) → (s.number ≡ m → ⊥) → get_or (set places s.number (Some k)) m None ≡ Some p → (p < k + 1) × ((d : BlockState) → (get_or blocks p d).number ≡ m)
-    at_other m p e q = let w = h.at m p (sym (kept m e) ∙ q) in (omega (arith, w.0), w.1)
+    at_other m p e q = let w = h.at m p (sym (node_range m e) ∙ q) in (omega (arith, w.0), w.1)
 
 pub all_places : (blocks : List BlockState) (k : ℕ) (places : List (Option ℕ)) → k ≡ length blocks → PlacesTo blocks k places → ArePlaces blocks places
 all_places blocks k places e h = record {

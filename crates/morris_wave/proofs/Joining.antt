@@ -5,7 +5,7 @@ use Rattle.std.proofs.lemmas.Bool.Decides.{nat_tests}
 use Rattle.std.proofs.lemmas.List.Folds.{list_any-append}
 use Rattle.morris_wave.specs.Nets.{times}
 use Rattle.morris_wave.specs.Solving.{among}
-use Rattle.morris_wave.specs.Keeping.{Takes, left_of}
+use Rattle.morris_wave.specs.NodeRanges.{Takes, left_of}
 use Rattle.morris_wave.specs.Counts.{counts_of, most_of, left_at, left_of_byte}
 use Rattle.morris_wave.specs.declared.counters.Counters.{Counters}
 use Rattle.morris_wave.specs.declared.counters.Counters.TheVariants.{Bytes, Words}

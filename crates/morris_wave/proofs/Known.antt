@@ -6,46 +6,46 @@ use Rattle.std.proofs.lemmas.Bool.{false≢true, or_left, cases_Bool, both_ways,
 use Rattle.std.proofs.lemmas.Bool.Decides.{nat_tests}
 use Rattle.morris_wave.specs.Nets.{Net}
 use Rattle.morris_wave.specs.Exits.{exits_of, exits_lost, exits_won}
-use Rattle.morris_wave.specs.Values.{is_lost, is_won, is_decided, code_within, HasCode}
-use Rattle.morris_wave.specs.Waves.{known_lost, known_won, is_decided_at, entry_at, open_at, settles, marked}
+use Rattle.morris_wave.specs.Values.{is_lost_before, is_won_before, is_decided, code_within, HasCode}
+use Rattle.morris_wave.specs.Waves.{known_lost, known_won, is_decided_at, entry_at, open_at, settles, mark_code}
 use Rattle.morris_wave.proofs.Tests.{any_same, count_same, none_counted}
 use Rattle.morris_wave.proofs.Depths.{lost_more, won_more, all_won_mono_at, some_lost_mono, all_won_later, some_lost_later, code_is, code_new, none_decided}
 use Rattle.morris_wave.proofs.ExitTests.{some_exit_lost, each_exit_won}
 
 -- what is known is decided by then, and what was decided a ply before is known
-known_lost_at_most : (g : Net) (n : ℕ) (a : ℕ → Bool) (j : ℕ) → known_lost g n a j ≡ true → is_lost g n j ≡ true
+known_lost_at_most : (g : Net) (n : ℕ) (a : ℕ → Bool) (j : ℕ) → known_lost g n a j ≡ true → is_lost_before g n j ≡ true
 unfolding known_lost
 known_lost_at_most g zero a j h = absurd (false≢true h)
 known_lost_at_most g (suc n) a j h = grind (arith, lost_more g n j)
 
-known_won_at_most : (g : Net) (n : ℕ) (a : ℕ → Bool) (j : ℕ) → known_won g n a j ≡ true → is_won g n j ≡ true
+known_won_at_most : (g : Net) (n : ℕ) (a : ℕ → Bool) (j : ℕ) → known_won g n a j ≡ true → is_won_before g n j ≡ true
 unfolding known_won
 known_won_at_most g zero a j h = absurd (false≢true h)
 known_won_at_most g (suc n) a j h = grind (arith, won_more g n j)
 
-known_lost_at_least : (g : Net) (n : ℕ) (a : ℕ → Bool) (j : ℕ) → is_lost g n j ≡ true → known_lost g (suc n) a j ≡ true
+known_lost_at_least : (g : Net) (n : ℕ) (a : ℕ → Bool) (j : ℕ) → is_lost_before g n j ≡ true → known_lost g (suc n) a j ≡ true
 unfolding known_lost
-known_lost_at_least g n a j h = or_left (is_lost g n j) (a j && is_lost g (suc n) j) h
+known_lost_at_least g n a j h = or_left (is_lost_before g n j) (a j && is_lost_before g (suc n) j) h
 
-known_won_at_least : (g : Net) (n : ℕ) (a : ℕ → Bool) (j : ℕ) → is_won g n j ≡ true → known_won g (suc n) a j ≡ true
+known_won_at_least : (g : Net) (n : ℕ) (a : ℕ → Bool) (j : ℕ) → is_won_before g n j ≡ true → known_won g (suc n) a j ≡ true
 unfolding known_won
-known_won_at_least g n a j h = or_left (is_won g n j) (a j && is_won g (suc n) j) h
+known_won_at_least g n a j h = or_left (is_won_before g n j) (a j && is_won_before g (suc n) j) h
 
 -- a decided node has a depth of at most n, and one of depth at most n - 1 is decided whatever is
 -- applied
 pub decided_at_most : (g : Net) (n : ℕ) (a : ℕ → Bool) (i : ℕ) → is_decided_at g n a i ≡ true → is_decided g (suc n) i ≡ true
-unfolding is_lost is_won
+unfolding is_lost_before is_won_before
 decided_at_most g n a i h =
-    grind (arith, all_won_mono_at g i n (known_won g n a) (is_won g n) (known_won_at_most g n a), some_lost_mono g i n (known_lost g n a) (is_lost g n) (known_lost_at_most g n a))
+    grind (arith, all_won_mono_at g i n (known_won g n a) (is_won_before g n) (known_won_at_most g n a), some_lost_mono g i n (known_lost g n a) (is_lost_before g n) (known_lost_at_most g n a))
 
 pub decided_at_least : (g : Net) (n : ℕ) (a : ℕ → Bool) (i : ℕ) → is_decided g n i ≡ true → is_decided_at g n a i ≡ true
-unfolding is_lost is_won
+unfolding is_lost_before is_won_before
 decided_at_least g zero a i h = absurd (both_ways (is_decided g zero i) (none_decided g i) h)
 decided_at_least g (suc n) a i h =
     grind (
       arith,
-      all_won_later g i n (is_won g n) (known_won g (suc n) a) (known_won_at_least g n a),
-      some_lost_later g i n (is_lost g n) (known_lost g (suc n) a) (known_lost_at_least g n a),
+      all_won_later g i n (is_won_before g n) (known_won g (suc n) a) (known_won_at_least g n a),
+      some_lost_later g i n (is_lost_before g n) (known_lost g (suc n) a) (known_lost_at_least g n a),
     )
 
 -- a decided node that has no smaller depth has depth n
@@ -55,7 +55,7 @@ entry_new g n a b i h k =
     code_new g n i before (decided_at_most g n b i k)
 
 -- one part more is applied: an entry changes exactly where the test holds
-pub entry_step : (g : Net) (n : ℕ) (a b : ℕ → Bool) (i : ℕ) (test : Bool) → is_decided_at g n b i ≡ (is_decided_at g n a i || test) → entry_at g n b i ≡ marked (entry_at g n a i) test (suc n)
+pub entry_step : (g : Net) (n : ℕ) (a b : ℕ → Bool) (i : ℕ) (test : Bool) → is_decided_at g n b i ≡ (is_decided_at g n a i || test) → entry_at g n b i ≡ mark_code (entry_at g n a i) test (suc n)
 entry_step g n a b i test h =
     let some : is_decided_at g n a i ≡ true → 0 < code_within g (suc n) i = λ e. (code_is g (suc n) i (decided_at_most g n a i e)).0 in
     grind (arith, nat_tests, entry_new g n a b i, some)

@@ -4,7 +4,7 @@ use Rattle.std.specs.List.{All, list_all}
 use Rattle.std.proofs.lemmas.Bool.{cases_lt, cases_Bool, and_from, le-leb, leb-true}
 use Rattle.std.proofs.lemmas.List.Elements.{All-head, All-tail}
 use Rattle.morris_wave.specs.Nets.{Net, IsNet}
-use Rattle.morris_wave.specs.Exits.{is_odd, is_won_code, least, greatest, depths, exits_of, due_of, last_due_of}
+use Rattle.morris_wave.specs.Exits.{is_odd, is_won_code, minimum, maximum, depths, exits_of, due_of, last_due_of}
 use Rattle.morris_wave.specs.Values.{IsTooDeep}
 use Rattle.morris_wave.proofs.ExitsDue.{pick, all_least, all_greatest}
 
@@ -32,12 +32,12 @@ pub due_deep : (g : Net) → IsNet g → (i : ℕ) → i < g.size → 65535 ≤ 
 due_deep g law i inside late =
     let lost = depths is_odd (g.exits i) in
     let won = depths is_won_code (g.exits i) in
-    let low = due-low 65534 (least lost) (all_least (λ d. leb d 65534) lost (depths-low 65534 is_odd (g.exits i) (law.codes i inside))) in
-    let high = due-low 65534 (greatest won) (all_greatest (λ d. leb d 65534) won (depths-low 65534 is_won_code (g.exits i) (law.codes i inside))) in (
+    let low = due-low 65534 (minimum lost) (all_least (λ d. leb d 65534) lost (depths-low 65534 is_odd (g.exits i) (law.codes i inside))) in
+    let high = due-low 65534 (maximum won) (all_greatest (λ d. leb d 65534) won (depths-low 65534 is_won_code (g.exits i) (law.codes i inside))) in (
       i,
       inside,
       inr (⊎_elim
-          (λ h. inr (due-is 65534 (greatest won) (omega (arith, late, high))))
-          (λ h. inl (due-is 65534 (least lost) (omega (arith, h, low))))
-          (cases_lt (due_of (least lost)) 65535)),
+          (λ h. inr (due-is 65534 (maximum won) (omega (arith, late, high))))
+          (λ h. inl (due-is 65534 (minimum lost) (omega (arith, h, low))))
+          (cases_lt (due_of (minimum lost)) 65535)),
     )

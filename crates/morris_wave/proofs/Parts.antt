@@ -3,7 +3,7 @@ use Rattle.std.proofs.Common.{◌≡◌, ◌≤◌, ℕ, zero, suc, Bool, true, 
 use Rattle.std.proofs.lemmas.Bool.{and_parts, not-true}
 use Rattle.std.proofs.lemmas.Bool.Decides.{nat_tests}
 use Rattle.morris_wave.specs.Nets.{Net}
-use Rattle.morris_wave.specs.Values.{is_lost, is_won, is_decided, code_within, HasDepth}
+use Rattle.morris_wave.specs.Values.{is_lost_before, is_won_before, is_decided, code_within, HasDepth}
 use Rattle.morris_wave.specs.Waves.{known_lost, known_won, entry_at, is_fresh}
 use Rattle.morris_wave.specs.Solving.{every}
 use Rattle.morris_wave.proofs.Depths.{lost_more, won_more, apart, code_is, code_kept, code_new, code_open}
@@ -18,12 +18,12 @@ new_depth g n i e = let w = and_parts (not (is_decided g n i)) (is_decided g (su
 pub known_won_cong : (g : Net) (n : ℕ) (a b : ℕ → Bool) (j : ℕ) → a j ≡ b j → known_won g n a j ≡ known_won g n b j
 unfolding known_won
 known_won_cong g zero a b j e = refl
-known_won_cong g (suc n) a b j e = ap (λ t. is_won g n j || (t && is_won g (suc n) j)) e
+known_won_cong g (suc n) a b j e = ap (λ t. is_won_before g n j || (t && is_won_before g (suc n) j)) e
 
 pub known_lost_cong : (g : Net) (n : ℕ) (a b : ℕ → Bool) (j : ℕ) → a j ≡ b j → known_lost g n a j ≡ known_lost g n b j
 unfolding known_lost
 known_lost_cong g zero a b j e = refl
-known_lost_cong g (suc n) a b j e = ap (λ t. is_lost g n j || (t && is_lost g (suc n) j)) e
+known_lost_cong g (suc n) a b j e = ap (λ t. is_lost_before g n j || (t && is_lost_before g (suc n) j)) e
 
 -- a part that has each fresh node is as good as every part
 covers : (l w l' w' a : Bool) → (l ≡ true → l' ≡ true) → (l' ≡ true → w' ≡ true → ⊥) → ((not (l || w) && (l' || w')) ≡ true → a ≡ true) → (w || (a && w')) ≡ (w || (true && w'))
@@ -35,12 +35,12 @@ covers_lost l w l' w' a more apart has = grind arith
 pub known_won_covered : (g : Net) (n : ℕ) (a : ℕ → Bool) (j : ℕ) → (is_fresh g n j ≡ true → a j ≡ true) → known_won g n a j ≡ known_won g n every j
 unfolding known_won is_fresh
 known_won_covered g zero a j has = refl
-known_won_covered g (suc n) a j has = covers (is_lost g n j) (is_won g n j) (is_lost g (suc n) j) (is_won g (suc n) j) (a j) (lost_more g n j) (apart g (suc n) j) has
+known_won_covered g (suc n) a j has = covers (is_lost_before g n j) (is_won_before g n j) (is_lost_before g (suc n) j) (is_won_before g (suc n) j) (a j) (lost_more g n j) (apart g (suc n) j) has
 
 pub known_lost_covered : (g : Net) (n : ℕ) (a : ℕ → Bool) (j : ℕ) → (is_fresh g n j ≡ true → a j ≡ true) → known_lost g n a j ≡ known_lost g n every j
 unfolding known_lost is_fresh
 known_lost_covered g zero a j has = refl
-known_lost_covered g (suc n) a j has = covers_lost (is_lost g n j) (is_won g n j) (is_lost g (suc n) j) (is_won g (suc n) j) (a j) (won_more g n j) (apart g (suc n) j) has
+known_lost_covered g (suc n) a j has = covers_lost (is_lost_before g n j) (is_won_before g n j) (is_lost_before g (suc n) j) (is_won_before g (suc n) j) (a j) (won_more g n j) (apart g (suc n) j) has
 
 -- the nodes of code n are the fresh ones of wave n
 pub fresh_code : (g : Net) (n i : ℕ) → eqb (code_within g (suc n) i) (suc n) ≡ is_fresh g (suc n) i

@@ -7,7 +7,7 @@ use Rattle.std.proofs.lemmas.List.Sums.{AllPass-from_list_all, list_all-from_All
 use Rattle.std.proofs.lemmas.List.Folds.{Any-from_list_any, list_any-from_Any}
 use Rattle.morris_wave.specs.Nets.{Net}
 use Rattle.morris_wave.specs.Exits.{is_odd, is_won_code}
-use Rattle.morris_wave.specs.Values.{is_lost, is_won, some_lost, all_won, is_lost_exit, is_won_exit, LostWithin, WonWithin, IsExitLost, IsExitWon, HasNoResult, EveryResultWon, SomeResultLost, PlyRules, is_decided, HasDepth, CodeRules}
+use Rattle.morris_wave.specs.Values.{is_lost_before, is_won_before, some_lost, all_won, is_lost_exit, is_won_exit, LostWithin, WonWithin, IsExitLost, IsExitWon, HasNoResult, EveryResultWon, SomeResultLost, PlyRules, is_decided, HasDepth, CodeRules}
 use Rattle.morris_wave.proofs.Depths.{no_lost_exit, nothing_lost, lost_parity, won_parity, is_odd-suc, apart, decided_by_then}
 
 exit_won : (m c : ℕ) → is_won_exit (suc m) c ≡ true → IsExitWon m c
@@ -32,46 +32,46 @@ any_weaker : (P Q : ℕ → Type 0) (xs : List ℕ) → ((x : ℕ) → P x → Q
 any_weaker P Q xs f (k, x, l, e, p) = (k, x, l, e, f x p)
 
 -- the same number in the two counts
-won_within : (g : Net) (m j : ℕ) → is_won g (suc m) j ≡ true → WonWithin g m j
+won_within : (g : Net) (m j : ℕ) → is_won_before g (suc m) j ≡ true → WonWithin g m j
 won_within g m j h = rw add-one h
 
-won_within_back : (g : Net) (m j : ℕ) → WonWithin g m j → is_won g (suc m) j ≡ true
+won_within_back : (g : Net) (m j : ℕ) → WonWithin g m j → is_won_before g (suc m) j ≡ true
 won_within_back g m j h = rw add-one at h
 
-lost_within : (g : Net) (m j : ℕ) → is_lost g (suc m) j ≡ true → LostWithin g m j
+lost_within : (g : Net) (m j : ℕ) → is_lost_before g (suc m) j ≡ true → LostWithin g m j
 lost_within g m j h = rw add-one h
 
-lost_within_back : (g : Net) (m j : ℕ) → LostWithin g m j → is_lost g (suc m) j ≡ true
+lost_within_back : (g : Net) (m j : ℕ) → LostWithin g m j → is_lost_before g (suc m) j ≡ true
 lost_within_back g m j h = rw add-one at h
 
 -- every result is won within m, by the tests
 module _ (g : Net) (m i : ℕ) where
-  every_won : all_won g (is_won g (suc m)) (suc m) i ≡ true → EveryResultWon g m i
+  every_won : all_won g (is_won_before g (suc m)) (suc m) i ≡ true → EveryResultWon g m i
   every_won h =
-      let w = and_parts (list_all (is_won g (suc m)) (g.quiet i)) (list_all (is_won_exit (suc m)) (g.exits i)) h in
-      let quiet = AllPass-from_list_all (is_won g (suc m)) (g.quiet i) w.0 in
+      let w = and_parts (list_all (is_won_before g (suc m)) (g.quiet i)) (list_all (is_won_exit (suc m)) (g.exits i)) h in
+      let quiet = AllPass-from_list_all (is_won_before g (suc m)) (g.quiet i) w.0 in
       let exits = AllPass-from_list_all (is_won_exit (suc m)) (g.exits i) w.1 in
       ((λ k d l. won_within g m (get_or (g.quiet i) k d) (quiet k d l)), (λ k d l. exit_won m (get_or (g.exits i) k d) (exits k d l)))
 
-  every_won_back : EveryResultWon g m i → all_won g (is_won g (suc m)) (suc m) i ≡ true
+  every_won_back : EveryResultWon g m i → all_won g (is_won_before g (suc m)) (suc m) i ≡ true
   every_won_back h =
-      and_from (list_all (is_won g (suc m)) (g.quiet i)) (list_all (is_won_exit (suc m)) (g.exits i))
-      (list_all-from_AllPass (is_won g (suc m)) (g.quiet i) (λ k d l. won_within_back g m (get_or (g.quiet i) k d) (h.0 k d l)))
+      and_from (list_all (is_won_before g (suc m)) (g.quiet i)) (list_all (is_won_exit (suc m)) (g.exits i))
+      (list_all-from_AllPass (is_won_before g (suc m)) (g.quiet i) (λ k d l. won_within_back g m (get_or (g.quiet i) k d) (h.0 k d l)))
       (list_all-from_AllPass (is_won_exit (suc m)) (g.exits i) (λ k d l. exit_won_back m (get_or (g.exits i) k d) (h.1 k d l)))
 
-  some_is_lost : some_lost g (is_lost g (suc m)) (suc m) i ≡ true → SomeResultLost g m i
+  some_is_lost : some_lost g (is_lost_before g (suc m)) (suc m) i ≡ true → SomeResultLost g m i
   some_is_lost h =
       ⊎_elim
-      (λ e. inl (any_weaker (λ j. is_lost g (suc m) j ≡ true) (LostWithin g m) (g.quiet i) (lost_within g m) (Any-from_list_any (is_lost g (suc m)) (g.quiet i) e)))
+      (λ e. inl (any_weaker (λ j. is_lost_before g (suc m) j ≡ true) (LostWithin g m) (g.quiet i) (lost_within g m) (Any-from_list_any (is_lost_before g (suc m)) (g.quiet i) e)))
       (λ e. inr (any_weaker (λ c. is_lost_exit (suc m) c ≡ true) (IsExitLost m) (g.exits i) (exit_lost m) (Any-from_list_any (is_lost_exit (suc m)) (g.exits i) e)))
-      (or_cases (list_any (is_lost g (suc m)) (g.quiet i)) (list_any (is_lost_exit (suc m)) (g.exits i)) h)
+      (or_cases (list_any (is_lost_before g (suc m)) (g.quiet i)) (list_any (is_lost_exit (suc m)) (g.exits i)) h)
 
-  some_is_lost_back : SomeResultLost g m i → some_lost g (is_lost g (suc m)) (suc m) i ≡ true
+  some_is_lost_back : SomeResultLost g m i → some_lost g (is_lost_before g (suc m)) (suc m) i ≡ true
   some_is_lost_back h =
       ⊎_elim
-      (λ e. or_left (list_any (is_lost g (suc m)) (g.quiet i)) (list_any (is_lost_exit (suc m)) (g.exits i))
-      (list_any-from_Any (is_lost g (suc m)) (g.quiet i) (any_weaker (LostWithin g m) (λ j. is_lost g (suc m) j ≡ true) (g.quiet i) (lost_within_back g m) e)))
-      (λ e. or_right (list_any (is_lost g (suc m)) (g.quiet i)) (list_any (is_lost_exit (suc m)) (g.exits i))
+      (λ e. or_left (list_any (is_lost_before g (suc m)) (g.quiet i)) (list_any (is_lost_exit (suc m)) (g.exits i))
+      (list_any-from_Any (is_lost_before g (suc m)) (g.quiet i) (any_weaker (LostWithin g m) (λ j. is_lost_before g (suc m) j ≡ true) (g.quiet i) (lost_within_back g m) e)))
+      (λ e. or_right (list_any (is_lost_before g (suc m)) (g.quiet i)) (list_any (is_lost_exit (suc m)) (g.exits i))
       (list_any-from_Any (is_lost_exit (suc m)) (g.exits i) (any_weaker (IsExitLost m) (λ c. is_lost_exit (suc m) c ≡ true) (g.exits i) (exit_lost_back m) e)))
       h
 
@@ -89,7 +89,7 @@ nothing_left g n i p h =
     and_from (list_all p (g.quiet i)) (list_all (is_won_exit n) (g.exits i)) (subst (λ xs. list_all p xs ≡ true) (sym h.0) refl) (subst (λ xs. list_all (is_won_exit n) xs ≡ true) (sym h.1) refl)
 
 lost_rule : (g : Net) (n i : ℕ) → LostWithin g n i ↔ (HasNoResult g i ⊎ ((0 < n) × EveryResultWon g (n - 1) i))
-unfolding is_lost is_won
+unfolding is_lost_before is_won_before
 lost_rule g zero i = (
   (λ h. let w = and_parts (list_all (λ j. false) (g.quiet i)) (list_all (is_won_exit 0) (g.exits i)) (lost_within_back g zero i h) in
       inl (no_quiet (g.quiet i) w.0, no_exit (g.exits i) w.1)),
@@ -98,11 +98,11 @@ lost_rule g zero i = (
 lost_rule g (suc m) i =
     let less : suc m - 1 ≡ m = omega arith in (
       (λ h. inr (omega arith, subst (λ x. EveryResultWon g x i) (sym less) (every_won g m i (lost_within_back g (suc m) i h)))),
-      (λ h. lost_within g (suc m) i (⊎_elim (λ e. nothing_left g (suc m) i (is_won g (suc m)) e) (λ e. every_won_back g m i (subst (λ x. EveryResultWon g x i) less e.1)) h)),
+      (λ h. lost_within g (suc m) i (⊎_elim (λ e. nothing_left g (suc m) i (is_won_before g (suc m)) e) (λ e. every_won_back g m i (subst (λ x. EveryResultWon g x i) less e.1)) h)),
     )
 
 won_rule : (g : Net) (n i : ℕ) → WonWithin g n i ↔ ((0 < n) × SomeResultLost g (n - 1) i)
-unfolding is_lost is_won
+unfolding is_lost_before is_won_before
 won_rule g zero i = (
   (λ h. absurd (⊎_elim (nothing_lost (g.quiet i)) (no_lost_exit (g.exits i)) (or_cases (list_any (λ j. false) (g.quiet i)) (list_any (is_lost_exit 0) (g.exits i)) (won_within_back g zero i h)))),
   (λ h. absurd (omega (arith, h.0))),
@@ -119,14 +119,14 @@ ply_rules g = record { lost = lost_rule g; won = won_rule g }
 within_decided : (g : Net) (n i : ℕ) → (LostWithin g n i ⊎ WonWithin g n i) → is_decided g (suc n) i ≡ true
 within_decided g n i h =
     ⊎_elim
-    (λ e. or_left (is_lost g (suc n) i) (is_won g (suc n) i) (lost_within_back g n i e))
-    (λ e. or_right (is_lost g (suc n) i) (is_won g (suc n) i) (won_within_back g n i e))
+    (λ e. or_left (is_lost_before g (suc n) i) (is_won_before g (suc n) i) (lost_within_back g n i e))
+    (λ e. or_right (is_lost_before g (suc n) i) (is_won_before g (suc n) i) (won_within_back g n i e))
     h
 
 -- the depth tells the outcome
 module _ (g : Net) (i depth : ℕ) (h : HasDepth g i depth) where
-  neither : (is_lost g depth i ≡ false) × (is_won g depth i ≡ false)
-  neither = or_parts (is_lost g depth i) (is_won g depth i) h.not_before
+  neither : (is_lost_before g depth i ≡ false) × (is_won_before g depth i ≡ false)
+  neither = or_parts (is_lost_before g depth i) (is_won_before g depth i) h.not_before
 
   even_lost : is_odd depth ≡ false → LostWithin g depth i
   even_lost even = lost_within g depth i (grind (arith, h.reached, neither, won_parity g depth i, is_odd-suc depth))

@@ -10,7 +10,7 @@ use Rattle.std.proofs.lemmas.List.Elements.{All-drop}
 use Rattle.std.proofs.lemmas.List.Sorted.{IsNonDecreasingBy-push, IsNonDecreasingBy-drop}
 use Rattle.morris_wave.specs.Nets.{times}
 use Rattle.morris_wave.specs.Exits.{is_odd, is_won_code}
-use Rattle.morris_wave.specs.Keeping.{Ranked, code_of}
+use Rattle.morris_wave.specs.NodeRanges.{Ranked, code_of}
 use Rattle.morris_wave.proofs.Tests.{count-cons}
 
 pub times-append : (i : ℕ) (xs ys : List ℕ) → times i (xs ++ ys) ≡ times i xs + times i ys
@@ -94,7 +94,7 @@ module _ {all : Bool} (first wave before here : ℕ) (codes decided : List ℕ) 
           (λ a. let e : get_or (decided ++ (first + place) ∷ []) p d ≡ first + place = get_or_push decided (first + place) d p (omega (arith, a, l, len)) in
           (omega (arith, e), omega (arith, e, inside, length-set codes place (wave + 1))))
           (cases_lt p (length decided));
-      once = λ k l kept.
+      once = λ k l node_range.
           grind (
             arith,
             nat_tests,
@@ -104,7 +104,7 @@ module _ {all : Bool} (first wave before here : ℕ) (codes decided : List ℕ) 
             get_or-set_same codes place (wave + 1) 0 inside,
             get_or-set_other codes place k (wave + 1) 0,
             h.once k,
-            kept,
+            node_range,
           );
       order =
           IsNonDecreasingBy-push (code_of first (set codes place (wave + 1))) decided (first + place)
@@ -137,7 +137,7 @@ module _ {all : Bool} (first wave before here : ℕ) (codes decided : List ℕ) 
   pub ranked_next : Ranked all first (wave + 1) codes decided here (length decided)
   ranked_next = record {
     inside = h.inside;
-    once = λ k l kept. h.once k l (λ some pos. let le = kept some pos in omega (arith, le));
+    once = λ k l node_range. h.once k l (λ some pos. let le = node_range some pos in omega (arith, le));
     order = h.order;
     starts = h.within;
     within = omega arith;
@@ -168,16 +168,16 @@ module _ {all : Bool} (first wave before here : ℕ) (codes decided : List ℕ) 
     pub ranked_drop : Ranked all first wave codes (drop gone decided) (before - gone) (here - gone)
     ranked_drop = record {
       inside = All-drop (λ i. (first ≤ i) × (i < first + length codes)) gone decided h.inside;
-      once = λ k l kept.
+      once = λ k l node_range.
           let parts : times (first + k) (take gone decided) + times (first + k) (drop gone decided) ≡ times (first + k) decided = sum_by-take-drop (λ x. cond {A = ℕ} (eqb x (first + k)) 1 0) decided gone in
-          let old = h.once k l kept in
+          let old = h.once k l node_range in
           let none : times (first + k) (take gone decided) ≡ 0 =
           ⊎_elim
           (λ (e : get_or codes k 0 ≡ 0). omega (arith, parts, old, cond-true {A = ℕ} (eqb (get_or codes k 0) 0) 0 1 (eq-eqb (get_or codes k 0) 0 e)))
           (λ (ne : get_or codes k 0 ≡ 0 → ⊥).
           ⊎_elim
           (λ (t : all ≡ true). ap (λ n. times (first + k) (take n decided)) (whole t))
-          (λ (f : all ≡ false). gone_early k (kept f (omega (arith, ne))))
+          (λ (f : all ≡ false). gone_early k (node_range f (omega (arith, ne))))
           (cases_Bool all))
           (cases_eq (get_or codes k 0) 0) in
           omega (arith, parts, old, none);
@@ -190,8 +190,8 @@ module _ {all : Bool} (first wave before here : ℕ) (codes decided : List ℕ) 
     }
 
   -- the stretch of the wave has each node of its code once, and no other
-  pub stretch_once : (k : ℕ) → k < length codes → times (first + k) (take (here - before) (drop before decided)) ≡ cond {A = ℕ} (ltb 0 wave && eqb (get_or codes k 0) wave) 1 0
-  stretch_once k l =
+  pub node_range_once : (k : ℕ) → k < length codes → times (first + k) (take (here - before) (drop before decided)) ≡ cond {A = ℕ} (ltb 0 wave && eqb (get_or codes k 0) wave) 1 0
+  node_range_once k l =
       let upper : times (first + k) (take here decided) + times (first + k) (drop here decided) ≡ times (first + k) decided = sum_by-take-drop (λ x. cond {A = ℕ} (eqb x (first + k)) 1 0) decided here in
       let lower : times (first + k) (take before (take here decided)) + times (first + k) (drop before (take here decided)) ≡ times (first + k) (take here decided) =
       sum_by-take-drop (λ x. cond {A = ℕ} (eqb x (first + k)) 1 0) (take here decided) before in
@@ -232,8 +232,8 @@ module _ {all : Bool} (first wave before here : ℕ) (codes decided : List ℕ) 
       here_code : (j i : ℕ) → i ≡ first + j → code_of first codes i ≡ get_or codes j 0
       here_code j i e = let less : i - first ≡ j = omega (arith, e) in ap (λ x. get_or codes x 0) less
 
-  pub stretch_inside : All (λ i. (first ≤ i) × (i < first + length codes)) (take (here - before) (drop before decided))
-  stretch_inside p d l =
+  pub node_range_inside : All (λ i. (first ≤ i) × (i < first + length codes)) (take (here - before) (drop before decided))
+  node_range_inside p d l =
       let q : p < here - before = omega (arith, l, length-take (here - before) (drop before decided)) in
       let at : get_or (take (here - before) (drop before decided)) p d ≡ get_or decided (before + p) d = get_or-take (here - before) (drop before decided) p d q ∙ get_or-drop before decided p d in
       let w = h.inside (before + p) d (omega (arith, q, h.within)) in
@@ -302,12 +302,12 @@ room_left codes place inside open_yet =
     omega (arith, all, le, one)
 
 -- the stretch of a wave, node after node
-pub stretch_none : (before : ℕ) (decided : List ℕ) → [] ≡ take (before - before) (drop before decided)
-stretch_none before decided = let z : 0 ≡ before - before = omega arith in ap (λ n. take n (drop before decided)) z
+pub node_range_none : (before : ℕ) (decided : List ℕ) → [] ≡ take (before - before) (drop before decided)
+node_range_none before decided = let z : 0 ≡ before - before = omega arith in ap (λ n. take n (drop before decided)) z
 
-pub stretch_more : (before place : ℕ) (decided nodes : List ℕ) (node : ℕ) → before ≤ place → place < length decided → nodes ≡ take (place - before) (drop before decided) → node ≡ get_or decided place 0
+pub node_range_more : (before place : ℕ) (decided nodes : List ℕ) (node : ℕ) → before ≤ place → place < length decided → nodes ≡ take (place - before) (drop before decided) → node ≡ get_or decided place 0
     → nodes ++ node ∷ [] ≡ take (place + 1 - before) (drop before decided)
-stretch_more before place decided nodes node low high so_far is =
+node_range_more before place decided nodes node low high so_far is =
     let there : before + (place - before) ≡ place = omega (arith, low) in
     let next : place - before + 1 ≡ place + 1 - before = omega (arith, low) in
     let at : node ≡ get_or (drop before decided) (place - before) 0 = is ∙ (ap (λ p. get_or decided p 0) (sym there) ∙ sym (get_or-drop before decided (place - before) 0)) in

@@ -1,13 +1,13 @@
 -- What is read of the exits of a stretch, node after node.
 use Rattle.std.proofs.Common.{◌≡◌, ℕ, ◌+◌, ◌%◌, ◌<◌, ◌≤◌, max, false, ◌&&◌, ◌||◌, cond, eqb, ltb, List, Option, Some, None, length, get_or, set, refl, sym, ap, ap₂, ◌∙◌, subst, ⊎_elim, arith, get_or-set_other, get_or-set_same}
 use Rattle.std.proofs.lemmas.Bool.{cases_eq, cases_lt, eq-eqb, ne_eqb, le-ltb}
-use Rattle.morris_wave.specs.declared.network.Exits.{Exits}
+use Rattle.morris_wave.specs.declared.graph.Exits.{Exits}
 use Rattle.morris_wave.specs.Nets.{Net, times}
 use Rattle.morris_wave.specs.Lists.{list_at}
 use Rattle.morris_wave.specs.Exits.{exits_of, exits_won, some_below, last_due_of}
-use Rattle.morris_wave.specs.Waves.{entry_at, marked, settles}
+use Rattle.morris_wave.specs.Waves.{entry_at, mark_code, settles}
 use Rattle.morris_wave.specs.Solving.{Marks, every}
-use Rattle.morris_wave.specs.Keeping.{HasRead, ListsDue, StretchHolds, due_wave, due_within, pending_at, waits}
+use Rattle.morris_wave.specs.NodeRanges.{HasRead, ListsDue, NodeRangeHolds, due_wave, due_within, pending_at, waits}
 use Rattle.morris_wave.proofs.Tests.{at_most_one}
 use Rattle.morris_wave.proofs.Advancing.{entry_first}
 use Rattle.morris_wave.proofs.Steps.{pending_first}
@@ -28,15 +28,15 @@ module _ {g : Net} {most first place : ℕ} {codes counters waves : List ℕ} {l
   code_here : get_or codes' place 0 ≡ entry_at g 0 every (first + place)
   code_here =
       marks place inside
-      ∙ (ap₂ (λ x t. marked x (t && (eqb quiet 0 && exits_won 0 e)) 1) (h.open_yet place (omega arith) inside) (eq-eqb place place refl)
-      ∙ (ap (λ t. marked 0 t 1) (sym (settles_first quiet e))
-      ∙ (ap₂ (λ c x. marked 0 (settles 0 c x) 1) counted is
+      ∙ (ap₂ (λ x t. mark_code x (t && (eqb quiet 0 && exits_won 0 e)) 1) (h.open_yet place (omega arith) inside) (eq-eqb place place refl)
+      ∙ (ap (λ t. mark_code 0 t 1) (sym (settles_first quiet e))
+      ∙ (ap₂ (λ c x. mark_code 0 (settles 0 c x) 1) counted is
       ∙ sym (entry_first g every (first + place)))))
 
   code_other : (k : ℕ) → k < length codes → (place ≡ k → ⊥) → get_or codes' k 0 ≡ get_or codes k 0
   code_other k l ne =
       marks k l
-      ∙ (ap (λ t. marked (get_or codes k 0) (t && (eqb quiet 0 && exits_won 0 e)) 1) (ne_eqb place k ne)
+      ∙ (ap (λ t. mark_code (get_or codes k 0) (t && (eqb quiet 0 && exits_won 0 e)) 1) (ne_eqb place k ne)
       ∙ marked_none (get_or codes k 0) 1)
 
   pub read_more : HasRead g most first (place + 1) codes' (set counters place ((quiet + waits 0 e) % 65536)) (set waves place (due_within (due_wave e))) (max last (last_due_of e))
@@ -94,7 +94,7 @@ lists_alike f h first count due same l = record {
 -- what was read of every node
 module _ {g : Net} {most first : ℕ} {codes counters waves : List ℕ} {last : ℕ} (h : HasRead g most first (length codes) codes counters waves last) (due : List (List ℕ)) where
   pub read_all : first + length codes ≤ g.size → length counters ≡ length codes → length waves ≡ length codes → ListsDue (λ k. get_or waves k 0) 0 first (length waves) due
-      → StretchHolds g 0 every first codes counters due last
+      → NodeRangeHolds g 0 every first codes counters due last
   read_all in_graph counters_len waves_len listed = record {
     in_graph = in_graph;
     counters_len = counters_len;

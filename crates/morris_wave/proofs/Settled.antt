@@ -9,7 +9,7 @@ use Rattle.std.proofs.lemmas.List.FromFn.{get_or-map-range_with_len, length-map-
 use Rattle.morris_wave.specs.Nets.{Net, IsNet, times}
 use Rattle.morris_wave.specs.Values.{HasCode, IsTooDeep}
 use Rattle.morris_wave.specs.Waves.{entry_at, is_decided_at, is_fresh}
-use Rattle.morris_wave.specs.Keeping.{Ranked}
+use Rattle.morris_wave.specs.NodeRanges.{Ranked}
 use Rattle.morris_wave.specs.Blocks.{IsIn, BlockState, BlockHolds, is_complete, in_applied, first_node, count_of, entries_of, IsLastDue, IsSettled}
 use Rattle.morris_wave.specs.Batches.{is_from_to}
 pub use Rattle.morris_wave.proofs.Ranks.{three_kinds}
@@ -29,13 +29,13 @@ module _ {g : Net} (law : IsNet g) {s : BlockState} {first : ℕ} {codes counter
       same_lists codes (entries_of g s) (h.count_is ∙ sym (length-map-range_with_len (entry_at g s.wave (in_applied s)) (first_node s) (count_of s)))
       (λ k d l. let within : k < count_of s = omega (arith, h.count_is, l) in
       get_or_default codes k d 0 l
-      ∙ (h.kept.codes_are k l
+      ∙ (h.node_range.codes_are k l
       ∙ (ap (λ f. entry_at g s.wave (in_applied s) (f + k)) h.first_is
       ∙ sym (get_or-map-range_with_len (entry_at g s.wave (in_applied s)) (first_node s) (count_of s) k (first_node s + k) d within refl))))
 
   module _ (i : ℕ) (inside : IsIn s.cut s.number i) (code : ℕ) (at : code ≡ get_or codes (i - first) 0) where
     entry_read : code ≡ entry_at g s.wave (in_applied s) i
-    entry_read = at ∙ entry_is law h.kept i (low i inside) (high i inside)
+    entry_read = at ∙ entry_is law h.node_range i (low i inside) (high i inside)
 
     pub code_value : code ≡ entry_at g s.wave (in_applied s) i
     code_value = entry_read
@@ -54,10 +54,10 @@ module _ {g : Net} (law : IsNet g) {s : BlockState} {first : ℕ} {codes counter
     list_inside = subst (λ xs. All (IsIn s.cut s.number) xs) (sym same) (λ p d l. let w = r.inside p d l in node_inside law h (get_or decided p d) w.0 w.1)
 
     pub list_once : (i : ℕ) → IsIn s.cut s.number i → times i nodes ≡ cond {A = ℕ} (is_decided_at g s.wave (in_applied s) i) 1 0
-    list_once i inside = ap (times i) same ∙ decided_once law h.kept wave before here decided r i (low i inside) (high i inside)
+    list_once i inside = ap (times i) same ∙ decided_once law h.node_range wave before here decided r i (low i inside) (high i inside)
 
     pub list_order : IsNonDecreasingBy (entry_at g s.wave (in_applied s)) nodes
-    list_order = subst (λ xs. IsNonDecreasingBy (entry_at g s.wave (in_applied s)) xs) (sym same) (decided_order law h.kept wave before here decided r)
+    list_order = subst (λ xs. IsNonDecreasingBy (entry_at g s.wave (in_applied s)) xs) (sym same) (decided_order law h.node_range wave before here decided r)
 
   -- the fresh nodes, as they are found and in ascending order
   module _ {found nodes : List ℕ} (same : IsPermutation found nodes) where
@@ -73,7 +73,7 @@ module _ {g : Net} (law : IsNet g) {s : BlockState} {first : ℕ} {codes counter
         → (i : ℕ) → IsIn s.cut s.number i → times i nodes ≡ cond {A = ℕ} (is_fresh g s.wave i) 1 0
     fresh_nodes once i inside =
         sum_by-IsPermutation (λ x. cond {A = ℕ} (eqb x i) 1 0) found nodes same
-        ∙ fresh_once law h.kept found once i (low i inside) (high i inside)
+        ∙ fresh_once law h.node_range found once i (low i inside) (high i inside)
 
     pub fresh_from_to : ((k : ℕ) → k < length codes → times (first + k) found ≡ cond {A = ℕ} (ltb 0 s.wave && eqb (get_or codes k 0) s.wave) 1 0)
         → (i : ℕ) → IsIn s.cut s.number i → times i nodes ≡ cond {A = ℕ} (is_from_to 0 s.cut.size i && is_fresh g s.wave i) 1 0
@@ -86,8 +86,8 @@ module _ {g : Net} (law : IsNet g) {s : BlockState} {first : ℕ} {codes counter
   -- the last exit that comes due
   pub last_due_is : IsLastDue g s last_due
   last_due_is = record {
-    bound = λ i inside. due_by law h.kept i (low i inside) (high i inside);
-    reached = λ some. let w = h.kept.reached some in
+    bound = λ i inside. due_by law h.node_range i (low i inside) (high i inside);
+    reached = λ some. let w = h.node_range.reached some in
         (first + w.0, (node_inside law h (first + w.0) (omega arith) (omega (arith, w.1.0)), w.1.1));
   }
 

@@ -3,9 +3,9 @@ use Rattle.std.proofs.Common.{◌≡◌, ℕ, zero, suc, ◌+◌, ◌<◌, ◌�
 use Rattle.std.proofs.lemmas.Bool.{cases_Bool, both_ways, false_from_ne_true, lt-ltb}
 use Rattle.morris_wave.specs.Nets.{Net, IsNet}
 use Rattle.morris_wave.specs.Exits.{exits_of, exits_lost, exits_won, some_below, none_from, due_of, last_due_of}
-use Rattle.morris_wave.specs.Values.{is_lost, is_won, is_decided, code_within, HasDepth, HasCode, IsTooDeep}
+use Rattle.morris_wave.specs.Values.{is_lost_before, is_won_before, is_decided, code_within, HasDepth, HasCode, IsTooDeep}
 use Rattle.morris_wave.specs.Waves.{is_fresh}
-use Rattle.morris_wave.specs.declared.network.Exits.{Exits}
+use Rattle.morris_wave.specs.declared.graph.Exits.{Exits}
 use Rattle.morris_wave.proofs.Tests.{any_same, all_same}
 use Rattle.morris_wave.proofs.Depths.{lost_more, won_more, apart, decided_more, decided_by_then, code_is, code_open}
 use Rattle.morris_wave.proofs.ExitTests.{some_exit_lost, each_exit_won}
@@ -30,10 +30,10 @@ module _ (g : Net) (n i : ℕ) (quiet : is_fresh g (suc n) i ≡ false) where
   unfolding is_fresh
   decided_still h = grind arith
 
-  lost_still : is_lost g (suc n) i ≡ is_lost g n i
+  lost_still : is_lost_before g (suc n) i ≡ is_lost_before g n i
   lost_still = grind (arith, apart g (suc n) i, lost_more g n i, won_more g n i, decided_still)
 
-  won_still : is_won g (suc n) i ≡ is_won g n i
+  won_still : is_won_before g (suc n) i ≡ is_won_before g n i
   won_still = grind (arith, apart g (suc n) i, lost_more g n i, won_more g n i, decided_still)
 
 -- no node of depth n is left and every exit is due by n
@@ -43,23 +43,23 @@ pub record IsQuiet (g : Net) (n : ℕ) : Type 0 where
 
 module _ (g : Net) (law : IsNet g) (n : ℕ) (q : IsQuiet g n) where
   mutual
-    unfolding is_lost is_won
+    unfolding is_lost_before is_won_before
 
-    lost_stays : (m i : ℕ) → i < g.size → is_lost g (n + m) i ≡ is_lost g n i
-    lost_stays zero i l = ap (λ x. is_lost g x i) (add-zero n)
+    lost_stays : (m i : ℕ) → i < g.size → is_lost_before g (n + m) i ≡ is_lost_before g n i
+    lost_stays zero i l = ap (λ x. is_lost_before g x i) (add-zero n)
     lost_stays (suc m) i l =
-        ap (λ x. is_lost g x i) (add-suc n m)
+        ap (λ x. is_lost_before g x i) (add-suc n m)
         ∙ (ap₂ (λ p r. p && r)
-        (all_same (is_won g (n + m)) (is_won g n) (g.quiet i) (λ k d h. won_stays m _ (law.inside i l k d h)))
+        (all_same (is_won_before g (n + m)) (is_won_before g n) (g.quiet i) (λ k d h. won_stays m _ (law.inside i l k d h)))
         (each_exit_won (n + m) (g.exits i) ∙ (exits_won_same n (n + m) (exits_of (g.exits i)) (q.due i l) (omega arith) ∙ sym (each_exit_won n (g.exits i))))
         ∙ lost_still g n i (q.no_new i l))
 
-    won_stays : (m i : ℕ) → i < g.size → is_won g (n + m) i ≡ is_won g n i
-    won_stays zero i l = ap (λ x. is_won g x i) (add-zero n)
+    won_stays : (m i : ℕ) → i < g.size → is_won_before g (n + m) i ≡ is_won_before g n i
+    won_stays zero i l = ap (λ x. is_won_before g x i) (add-zero n)
     won_stays (suc m) i l =
-        ap (λ x. is_won g x i) (add-suc n m)
+        ap (λ x. is_won_before g x i) (add-suc n m)
         ∙ (ap₂ (λ p r. p || r)
-        (any_same (is_lost g (n + m)) (is_lost g n) (g.quiet i) (λ k d h. lost_stays m _ (law.inside i l k d h)))
+        (any_same (is_lost_before g (n + m)) (is_lost_before g n) (g.quiet i) (λ k d h. lost_stays m _ (law.inside i l k d h)))
         (some_exit_lost (n + m) (g.exits i) ∙ (exits_lost_same n (n + m) (exits_of (g.exits i)) (q.due i l) (omega arith) ∙ sym (some_exit_lost n (g.exits i))))
         ∙ won_still g n i (q.no_new i l))
 

@@ -4,9 +4,9 @@ use Rattle.std.specs.List.{count_by}
 use Rattle.std.proofs.lemmas.Bool.Decides.{nat_tests}
 use Rattle.morris_wave.specs.Nets.{Net}
 use Rattle.morris_wave.specs.Exits.{is_odd, exits_of, exits_won}
-use Rattle.morris_wave.specs.Waves.{entry_at, open_at, is_fresh, marked}
+use Rattle.morris_wave.specs.Waves.{entry_at, open_at, is_fresh, mark_code}
 use Rattle.morris_wave.specs.Solving.{every, none}
-use Rattle.morris_wave.specs.Keeping.{due_wave, waits, pending_at}
+use Rattle.morris_wave.specs.NodeRanges.{due_wave, waits, pending_at}
 use Rattle.morris_wave.proofs.Applying.{odd_open, even_open, even_entry}
 use Rattle.morris_wave.proofs.Advancing.{open_next, entry_next, open_first}
 use Rattle.morris_wave.proofs.ExitsDue.{odd_lost, odd_won, even_lost, even_won, even_won_before, pending_zero}
@@ -25,10 +25,10 @@ module _ (g : Net) (n : ℕ) (a x : ℕ → Bool) (i taken : ℕ) (counted : tak
   even_pending even apart = let e = even_open g n a x i taken counted even apart in omega (arith, e)
 
   pub even_closed : is_odd n ≡ false → ((j : ℕ) → x j ≡ true → a j ≡ false)
-      → entry_at g n (λ k. a k || x k) i ≡ marked (entry_at g n a i) (ltb 0 taken && eqb (pending_at g n (λ k. a k || x k) i) 0) (suc n)
+      → entry_at g n (λ k. a k || x k) i ≡ mark_code (entry_at g n a i) (ltb 0 taken && eqb (pending_at g n (λ k. a k || x k) i) 0) (suc n)
   even_closed even apart =
       even_entry g n a x i taken counted even apart
-      ∙ ap (λ t. marked (entry_at g n a i) (ltb 0 taken && t) (suc n)) (sym (pending_zero g n (λ k. a k || x k) i))
+      ∙ ap (λ t. mark_code (entry_at g n a i) (ltb 0 taken && t) (suc n)) (sym (pending_zero g n (λ k. a k || x k) i))
 
 -- from a complete wave to the next
 module _ (g : Net) (n i : ℕ) where
@@ -37,7 +37,7 @@ module _ (g : Net) (n i : ℕ) where
   pub odd_pending_next : is_odd (suc n) ≡ true → pending_at g (suc n) none i ≡ pending_at g n every i
   odd_pending_next odd = ap₂ (λ c (w : Bool). c + cond {A = ℕ} w 0 1) (open_next g n i) (odd_won n (g.exits i) odd)
 
-  pub odd_entry_next : is_odd (suc n) ≡ true → entry_at g (suc n) none i ≡ marked (entry_at g n every i) (eqb (due_wave (exits_of (g.exits i))) (suc n)) (suc (suc n))
+  pub odd_entry_next : is_odd (suc n) ≡ true → entry_at g (suc n) none i ≡ mark_code (entry_at g n every i) (eqb (due_wave (exits_of (g.exits i))) (suc n)) (suc (suc n))
   odd_entry_next odd =
       entry_next g n i (eqb (due_wave (exits_of (g.exits i))) (suc n))
       (λ t. grind (arith, nat_tests, odd_lost n (g.exits i) odd))
@@ -49,7 +49,7 @@ module _ (g : Net) (n i : ℕ) where
   even_pending_next even = grind (arith, nat_tests, open_next g n i, even_won n (g.exits i) even, even_won_before n (g.exits i) even)
 
   pub even_entry_next : is_odd (suc n) ≡ false
-      → entry_at g (suc n) none i ≡ marked (entry_at g n every i) (eqb (due_wave (exits_of (g.exits i))) (suc n) && eqb (pending_at g (suc n) none i) 0) (suc (suc n))
+      → entry_at g (suc n) none i ≡ mark_code (entry_at g n every i) (eqb (due_wave (exits_of (g.exits i))) (suc n) && eqb (pending_at g (suc n) none i) 0) (suc (suc n))
   even_entry_next even =
       entry_next g n i (eqb (due_wave (exits_of (g.exits i))) (suc n) && eqb (pending_at g (suc n) none i) 0)
       (λ t. grind (arith, nat_tests, closed))

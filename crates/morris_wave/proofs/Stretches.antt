@@ -10,9 +10,9 @@ use Rattle.morris_wave.specs.Nets.{Net, IsNet, times}
 use Rattle.morris_wave.specs.Lists.{list_at}
 use Rattle.morris_wave.specs.Exits.{is_odd, exits_of, exits_won, last_due_of}
 use Rattle.morris_wave.specs.Values.{is_decided, code_within, HasDepth, IsTooDeep}
-use Rattle.morris_wave.specs.Waves.{known_won, known_lost, is_decided_at, entry_at, is_fresh, marked}
+use Rattle.morris_wave.specs.Waves.{known_won, known_lost, is_decided_at, entry_at, is_fresh, mark_code}
 use Rattle.morris_wave.specs.Solving.{among, every, none}
-use Rattle.morris_wave.specs.Keeping.{StretchHolds, Ranked, code_of, Takes, ListsDue, due_wave, due_within, pending_at, waits, left_of}
+use Rattle.morris_wave.specs.NodeRanges.{NodeRangeHolds, Ranked, code_of, Takes, ListsDue, due_wave, due_within, pending_at, waits, left_of}
 use Rattle.morris_wave.proofs.Tests.{at_most_one, some_counted}
 use Rattle.morris_wave.proofs.DueLists.{due_gone}
 use Rattle.morris_wave.proofs.Known.{entry_open, entry_same, open_same}
@@ -37,7 +37,7 @@ few_pending g n a i few = omega (arith, few, count_by-le-length (λ j. not (know
 due_same : (wave n : ℕ) → n ≤ 65534 → 0 < n → eqb (due_within wave) n ≡ eqb wave n
 due_same wave n le pos = grind (arith, nat_tests)
 
-module _ {g : Net} (law : IsNet g) {n : ℕ} {a : ℕ → Bool} {first : ℕ} {codes counters : List ℕ} {due : List (List ℕ)} {last_due : ℕ} (h : StretchHolds g n a first codes counters due last_due) where
+module _ {g : Net} (law : IsNet g) {n : ℕ} {a : ℕ → Bool} {first : ℕ} {codes counters : List ℕ} {due : List (List ℕ)} {last_due : ℕ} (h : NodeRangeHolds g n a first codes counters due last_due) where
   pub due_by : (i : ℕ) → first ≤ i → i < first + length codes → last_due_of (exits_of (g.exits i)) ≤ last_due
   due_by i low high =
       let here : first + (i - first) ≡ i = omega (arith, low) in
@@ -87,7 +87,7 @@ module _ {g : Net} (law : IsNet g) {n : ℕ} {a : ℕ → Bool} {first : ℕ} {c
 
   -- the parts that are applied may be told in other words
   pub holds_same : (b : ℕ → Bool) → ((j : ℕ) → j < g.size → known_won g n a j ≡ known_won g n b j) → ((j : ℕ) → j < g.size → known_lost g n a j ≡ known_lost g n b j)
-      → StretchHolds g n b first codes counters due last_due
+      → NodeRangeHolds g n b first codes counters due last_due
   holds_same b won lost = record {
     in_graph = h.in_graph;
     counters_len = h.counters_len;
@@ -102,7 +102,7 @@ module _ {g : Net} (law : IsNet g) {n : ℕ} {a : ℕ → Bool} {first : ℕ} {c
   }
 
   -- the parts alone count
-  pub holds_alike : (b : ℕ → Bool) → ((j : ℕ) → j < g.size → a j ≡ b j) → StretchHolds g n b first codes counters due last_due
+  pub holds_alike : (b : ℕ → Bool) → ((j : ℕ) → j < g.size → a j ≡ b j) → NodeRangeHolds g n b first codes counters due last_due
   holds_alike b same = holds_same b (λ j l. known_won_cong g n a b j (same j l)) (λ j l. known_lost_cong g n a b j (same j l))
 
   -- the fresh nodes of `x` are applied too, to which these nodes lead
@@ -128,8 +128,8 @@ module _ {g : Net} (law : IsNet g) {n : ℕ} {a : ℕ → Bool} {first : ℕ} {c
       odd_code : is_odd n ≡ true → (k : ℕ) → k < length codes → get_or codes' k 0 ≡ entry_at g n (λ j. a j || x j) (first + k)
       odd_code odd k l =
           (takes.odd odd).0 k l
-          ∙ (ap (marked (get_or codes k 0) (among nodes (first + k))) (plus_one n)
-          ∙ (ap₂ (λ y t. marked y t (suc n)) (h.codes_are k l) (sym (is_behind (first + k)))
+          ∙ (ap (mark_code (get_or codes k 0) (among nodes (first + k))) (plus_one n)
+          ∙ (ap₂ (λ y t. mark_code y t (suc n)) (h.codes_are k l) (sym (is_behind (first + k)))
           ∙ sym (odd_entry g n a x (first + k) (times (first + k) nodes) (taken k l) odd)))
 
       odd_counter : is_odd n ≡ true → (k : ℕ) → k < length codes → get_or counters' k 0 ≡ pending_at g n (λ j. a j || x j) (first + k) % 65536
@@ -151,11 +151,11 @@ module _ {g : Net} (law : IsNet g) {n : ℕ} {a : ℕ → Bool} {first : ℕ} {c
       even_code : is_odd n ≡ false → (k : ℕ) → k < length codes → get_or codes' k 0 ≡ entry_at g n (λ j. a j || x j) (first + k)
       even_code even k l =
           (takes.even even).1 k l
-          ∙ (ap (marked (get_or codes k 0) (among nodes (first + k) && eqb (get_or counters' k 0) 0)) (plus_one n)
-          ∙ (ap₂ (λ y t. marked y t (suc n)) (h.codes_are k l) (spent even k l)
+          ∙ (ap (mark_code (get_or codes k 0) (among nodes (first + k) && eqb (get_or counters' k 0) 0)) (plus_one n)
+          ∙ (ap₂ (λ y t. mark_code y t (suc n)) (h.codes_are k l) (spent even k l)
           ∙ sym (even_closed g n a x (first + k) (times (first + k) nodes) (taken k l) even apart)))
 
-      pub take_holds : StretchHolds g n (λ j. a j || x j) first codes' counters' due last_due
+      pub take_holds : NodeRangeHolds g n (λ j. a j || x j) first codes' counters' due last_due
       take_holds = record {
         in_graph = omega (arith, codes_len, h.in_graph);
         counters_len = counters_len ∙ (h.counters_len ∙ sym codes_len);
@@ -170,7 +170,7 @@ module _ {g : Net} (law : IsNet g) {n : ℕ} {a : ℕ → Bool} {first : ℕ} {c
           ListsDueOf xs count = ListsDue (λ k. due_within (due_wave (exits_of (g.exits (first + k))))) (n + 1) first count xs
 
 -- from a complete wave to the next
-module _ {g : Net} (law : IsNet g) {n first : ℕ} {codes counters : List ℕ} {due : List (List ℕ)} {last_due : ℕ} (h : StretchHolds g n every first codes counters due last_due)
+module _ {g : Net} (law : IsNet g) {n first : ℕ} {codes counters : List ℕ} {due : List (List ℕ)} {last_due : ℕ} (h : NodeRangeHolds g n every first codes counters due last_due)
     (last : n < 65534) where
   often_due : (k : ℕ) → k < length codes → times (first + k) (list_at due (n + 1)) ≡ cond {A = ℕ} (eqb (due_wave (exits_of (g.exits (first + k)))) (suc n)) 1 0
   often_due k l =
@@ -208,12 +208,12 @@ module _ {g : Net} (law : IsNet g) {n first : ℕ} {codes counters : List ℕ} {
     new_code k l =
         ⊎_elim
         (λ odd. ((comes.odd odd).0 k l)
-        ∙ (ap₂ (λ x t. marked x t (n + 1 + 1)) (h.codes_are k l) (is_due k l)
-        ∙ (ap (marked (entry_at g n every (first + k)) (eqb (due_wave (exits_of (g.exits (first + k)))) (suc n))) (twice n)
+        ∙ (ap₂ (λ x t. mark_code x t (n + 1 + 1)) (h.codes_are k l) (is_due k l)
+        ∙ (ap (mark_code (entry_at g n every (first + k)) (eqb (due_wave (exits_of (g.exits (first + k)))) (suc n))) (twice n)
         ∙ sym (odd_entry_next g n (first + k) (odd_suc true odd)))))
         (λ even. ((comes.even even).1 k l)
-        ∙ (ap₂ (λ x t. marked x t (n + 1 + 1)) (h.codes_are k l) (closes even)
-        ∙ (ap (marked (entry_at g n every (first + k)) (eqb (due_wave (exits_of (g.exits (first + k)))) (suc n) && eqb (pending_at g (suc n) none (first + k)) 0)) (twice n)
+        ∙ (ap₂ (λ x t. mark_code x t (n + 1 + 1)) (h.codes_are k l) (closes even)
+        ∙ (ap (mark_code (entry_at g n every (first + k)) (eqb (due_wave (exits_of (g.exits (first + k)))) (suc n) && eqb (pending_at g (suc n) none (first + k)) 0)) (twice n)
         ∙ sym (even_entry_next g n (first + k) (odd_suc false even)))))
         (cases_Bool (is_odd (n + 1)))
       where
@@ -250,7 +250,7 @@ module _ {g : Net} (law : IsNet g) {n first : ℕ} {codes counters : List ℕ} {
         (cases_Bool (is_odd (n + 1)))
 
     -- the list of the wave is let go once it was taken in
-    pub next_holds : StretchHolds g (n + 1) none first codes' counters' (set due (n + 1) []) last_due
+    pub next_holds : NodeRangeHolds g (n + 1) none first codes' counters' (set due (n + 1) []) last_due
     next_holds = record {
       in_graph = omega (arith, codes_len, h.in_graph);
       counters_len = counters_len ∙ (h.counters_len ∙ sym codes_len);
@@ -273,12 +273,12 @@ none_lost : (g : Net) (a b : ℕ → Bool) (j : ℕ) → known_lost g 0 a j ≡ 
 unfolding known_lost
 none_lost g a b j = refl
 
-module _ {g : Net} (law : IsNet g) {a : ℕ → Bool} (b : ℕ → Bool) {first : ℕ} {codes counters : List ℕ} {due : List (List ℕ)} {last_due : ℕ} (h : StretchHolds g 0 a first codes counters due last_due) where
-  pub first_holds : StretchHolds g 0 b first codes counters due last_due
+module _ {g : Net} (law : IsNet g) {a : ℕ → Bool} (b : ℕ → Bool) {first : ℕ} {codes counters : List ℕ} {due : List (List ℕ)} {last_due : ℕ} (h : NodeRangeHolds g 0 a first codes counters due last_due) where
+  pub first_holds : NodeRangeHolds g 0 b first codes counters due last_due
   first_holds = holds_same law h b (λ j l. none_won g a b j) (λ j l. none_lost g a b j)
 
 -- what a complete wave found
-module _ {g : Net} (law : IsNet g) {n first : ℕ} {codes counters : List ℕ} {due : List (List ℕ)} {last_due : ℕ} (h : StretchHolds g n every first codes counters due last_due) where
+module _ {g : Net} (law : IsNet g) {n first : ℕ} {codes counters : List ℕ} {due : List (List ℕ)} {last_due : ℕ} (h : NodeRangeHolds g n every first codes counters due last_due) where
   depth_new : (i : ℕ) → HasDepth g i n → is_fresh g (suc n) i ≡ true
   unfolding is_fresh
   depth_new i d = and_from (not (is_decided g n i)) (is_decided g (suc n) i) (not_from_false (is_decided g n i) d.not_before) d.reached

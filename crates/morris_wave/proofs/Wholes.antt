@@ -10,21 +10,21 @@ use Rattle.morris_wave.specs.Exits.{is_odd}
 use Rattle.morris_wave.specs.Values.{code_within, HasCode, IsTooDeep}
 use Rattle.morris_wave.specs.Waves.{is_fresh}
 use Rattle.morris_wave.specs.Solving.{ListsFresh, among, every, none}
-use Rattle.morris_wave.specs.Keeping.{StretchHolds, Ranked, Takes, left_of}
+use Rattle.morris_wave.specs.NodeRanges.{NodeRangeHolds, Ranked, Takes, left_of}
 use Rattle.morris_wave.proofs.Tests.{at_most_one, count_same, some_counted}
 use Rattle.morris_wave.proofs.Marking.{among_more, times_more}
 use Rattle.morris_wave.proofs.Parts.{new_depth, known_won_covered, known_lost_covered}
-use Rattle.morris_wave.proofs.Ranks.{stretch_inside, stretch_once}
+use Rattle.morris_wave.proofs.Ranks.{node_range_inside, node_range_once}
 use Rattle.morris_wave.proofs.Settling.{IsQuiet, quiet_codes, not_too_deep}
 use Rattle.morris_wave.proofs.Stretches.{take_enough, take_few, take_holds, holds_same, holds_alike, fresh_once, codes_within, no_depth, due_by}
 
 -- the nodes of the wave's stretch of the list are the fresh ones
-module _ {g : Net} (law : IsNet g) {n : ℕ} {a : ℕ → Bool} {codes counters : List ℕ} {due : List (List ℕ)} {last_due : ℕ} (h : StretchHolds g n a 0 codes counters due last_due)
+module _ {g : Net} (law : IsNet g) {n : ℕ} {a : ℕ → Bool} {codes counters : List ℕ} {due : List (List ℕ)} {last_due : ℕ} (h : NodeRangeHolds g n a 0 codes counters due last_due)
     (len : length codes ≡ g.size) where
   pub fresh_listed : {all : Bool} → (decided : List ℕ) (before here : ℕ) → Ranked all 0 n codes decided before here → ListsFresh g n (take (here - before) (drop before decided))
   fresh_listed decided before here r = record {
-    inside = λ p d l. let w = stretch_inside 0 n before here codes decided r p d l in omega (arith, w.1, len);
-    once = λ k l. fresh_once law h (take (here - before) (drop before decided)) (stretch_once 0 n before here codes decided r) k (omega arith) (omega (arith, l, len));
+    inside = λ p d l. let w = node_range_inside 0 n before here codes decided r p d l in omega (arith, w.1, len);
+    once = λ k l. fresh_once law h (take (here - before) (drop before decided)) (node_range_once 0 n before here codes decided r) k (omega arith) (omega (arith, l, len));
   }
 
 pub fresh_length : (old : List ℕ) (before here : ℕ) → here ≤ length old → length (take (here - before) (drop before old)) ≡ here - before
@@ -72,7 +72,7 @@ module _ {g : Net} {n : ℕ} {fresh : List ℕ} (listed : ListsFresh g n fresh) 
         at : (y : ℕ) → eqb y node ≡ (eqb node y && is_fresh g n y)
         at y = grind (arith, nat_tests, is_new)
 
-    module _ (law : IsNet g) {first : ℕ} {codes counters : List ℕ} {due : List (List ℕ)} {last_due : ℕ} (h : StretchHolds g n (among (take i fresh)) first codes counters due last_due) where
+    module _ (law : IsNet g) {first : ℕ} {codes counters : List ℕ} {due : List (List ℕ)} {last_due : ℕ} (h : NodeRangeHolds g n (among (take i fresh)) first codes counters due last_due) where
       taken : (k : ℕ) → k < length codes → times (first + k) nodes ≡ count_by (λ j. eqb node j && is_fresh g n j) (g.quiet (first + k))
       taken k l = counted (first + k) (omega (arith, l, h.in_graph))
 
@@ -83,18 +83,18 @@ module _ {g : Net} {n : ℕ} {fresh : List ℕ} (listed : ListsFresh g n fresh) 
       spread_few even k l few = take_few law h (λ j. eqb node j) nodes taken apart_from even k l few
 
       pub spread_more : (codes' counters' : List ℕ) → length codes' ≡ length codes → length counters' ≡ length counters → ((k : ℕ) → k < length counters' → get_or counters' k 0 < 65536)
-          → Takes n first nodes codes codes' counters counters' → StretchHolds g n (among (take (i + 1) fresh)) first codes' counters' due last_due
+          → Takes n first nodes codes codes' counters counters' → NodeRangeHolds g n (among (take (i + 1) fresh)) first codes' counters' due last_due
       spread_more codes' counters' codes_len counters_len small takes =
           holds_alike law (take_holds law h (λ j. eqb node j) nodes taken apart_from codes' counters' codes_len counters_len small takes) (among (take (i + 1) fresh))
           (λ j l. sym (among_more fresh i node inside is j))
 
 module _ {g : Net} (law : IsNet g) {n first : ℕ} {codes counters : List ℕ} {due : List (List ℕ)} {last_due : ℕ} where
   -- before the first of them
-  pub spread_none : (fresh : List ℕ) (i : ℕ) → i ≡ 0 → StretchHolds g n none first codes counters due last_due → StretchHolds g n (among (take i fresh)) first codes counters due last_due
-  spread_none fresh i is h = subst (λ x. StretchHolds g n (among (take x fresh)) first codes counters due last_due) (sym is) h
+  pub spread_none : (fresh : List ℕ) (i : ℕ) → i ≡ 0 → NodeRangeHolds g n none first codes counters due last_due → NodeRangeHolds g n (among (take i fresh)) first codes counters due last_due
+  spread_none fresh i is h = subst (λ x. NodeRangeHolds g n (among (take x fresh)) first codes counters due last_due) (sym is) h
 
   -- when all fresh nodes are done, the wave is complete
-  pub spread_all : (fresh : List ℕ) → ListsFresh g n fresh → StretchHolds g n (among fresh) first codes counters due last_due → StretchHolds g n every first codes counters due last_due
+  pub spread_all : (fresh : List ℕ) → ListsFresh g n fresh → NodeRangeHolds g n (among fresh) first codes counters due last_due → NodeRangeHolds g n every first codes counters due last_due
   spread_all fresh listed h =
       holds_same law h every
       (λ j l. known_won_covered g n (among fresh) j (has j l)) (λ j l. known_lost_covered g n (among fresh) j (has j l))
@@ -103,7 +103,7 @@ module _ {g : Net} (law : IsNet g) {n first : ℕ} {codes counters : List ℕ} {
       has j l e = sym (some_counted (λ x. eqb x j) fresh) ∙ lt-ltb 0 (times j fresh) (omega (arith, listed.once j l, cond-true {A = ℕ} (is_fresh g n j) 1 0 e))
 
 -- a complete wave that found nothing more, when all exits are due: its entries are the codes
-module _ {g : Net} (law : IsNet g) {n : ℕ} {codes counters : List ℕ} {due : List (List ℕ)} {last_due : ℕ} (h : StretchHolds g n every 0 codes counters due last_due) (len : length codes ≡ g.size)
+module _ {g : Net} (law : IsNet g) {n : ℕ} {codes counters : List ℕ} {due : List (List ℕ)} {last_due : ℕ} (h : NodeRangeHolds g n every 0 codes counters due last_due) (len : length codes ≡ g.size)
     (le : last_due ≤ n) (nothing : list_any (λ c. eqb c (n + 1)) codes ≡ false) where
   quiet : IsQuiet g n
   quiet = record {

@@ -2,7 +2,7 @@
 use Rattle.std.proofs.Common.{◌≡◌, ℕ, ◌<◌, ◌≤◌, eqb, get_or, refl, ⊎_elim, arith}
 use Rattle.std.proofs.lemmas.Bool.{cases_eq, cond-false, ne_eqb}
 use Rattle.std.proofs.lemmas.Bool.Decides.{nat_tests}
-use Rattle.morris_wave.specs.Keeping.{left_of}
+use Rattle.morris_wave.specs.NodeRanges.{left_of}
 use Rattle.morris_wave.specs.Counts.{FallsLike, left_of_byte, left_at, counts_of, most_of}
 use Rattle.morris_wave.specs.declared.counters.Counters.{Counters}
 use Rattle.morris_wave.specs.declared.counters.Counters.TheVariants.{Bytes, Words}

@@ -2,8 +2,8 @@
 use Rattle.std.specs.Prelude.{ℕ, Bool, false, not, ◌&&◌, ◌==◌, if◌then◌else◌, slice_set, slice_index_or}
 use Rattle.morris_wave.specs.Blocks.{Parts, BlockState, taken_of}
 use Rattle.morris_wave.specs.Batches.{BatchState}
-use Rattle.morris_wave.specs.declared.engine.Applied.{Applied}
-use Rattle.morris_wave.specs.declared.engine.Applied.TheVariants.{Done, Again, Stranger}
+use Rattle.morris_wave.specs.declared.block.Applied.{Applied}
+use Rattle.morris_wave.specs.declared.block.Applied.TheVariants.{Done, Again, Stranger}
 
 -- whether two cuts are of one size and number of blocks
 abbrev pub is_same_cut : Parts → Parts → Bool

@@ -5,7 +5,7 @@ use Rattle.morris_wave.specs.Exits.{exits_of, last_due_of}
 use Rattle.morris_wave.specs.Nets.{Net}
 use Rattle.morris_wave.specs.Values.{HasDepth}
 use Rattle.morris_wave.specs.Waves.{entry_at}
-use Rattle.morris_wave.specs.Keeping.{StretchHolds}
+use Rattle.morris_wave.specs.NodeRanges.{NodeRangeHolds}
 use Rattle.morris_wave.specs.Counts.{AreFew}
 
 -- so many nodes, cut into so many blocks
@@ -73,7 +73,7 @@ pub record BlockHolds (g : Net) (s : BlockState) (first : ℕ) (codes counters :
   pub wave : s.wave ≤ 65534
   pub first_is : first ≡ first_node s
   pub count_is : length codes ≡ count_of s
-  pub kept : StretchHolds g s.wave (in_applied s) first codes counters due last_due
+  pub node_range : NodeRangeHolds g s.wave (in_applied s) first codes counters due last_due
   -- each node has fewer quiet results than the counters are for
   pub few : AreFew g first (length codes) most
 

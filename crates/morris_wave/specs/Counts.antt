@@ -1,7 +1,7 @@
 -- Counters of the results that nodes wait for.
 use Rattle.std.specs.Prelude.{◌≡◌, ℕ, ◌+◌, ◌<◌, ◌≤◌, ◌==◌, List, length, slice_index, if◌then◌else◌}
 use Rattle.morris_wave.specs.Nets.{Net}
-use Rattle.morris_wave.specs.Keeping.{left_of}
+use Rattle.morris_wave.specs.NodeRanges.{left_of}
 use Rattle.morris_wave.specs.declared.counters.Counters.{Counters}
 use Rattle.morris_wave.specs.declared.counters.Counters.TheVariants.{Bytes, Words}
 

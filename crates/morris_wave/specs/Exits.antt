@@ -1,7 +1,7 @@
 -- What a search has to know of the exits of a node.
 use Rattle.std.specs.Prelude.{ℕ, ◌+◌, ◌-◌, ◌%◌, min, max, Bool, true, false, not, ◌&&◌, List, [], ◌∷◌, Option, Some, None, is_none, map, ◌==◌, nat_lt}
 use Rattle.std.specs.List.{filter, list_any}
-use Rattle.morris_wave.specs.declared.network.Exits.{Exits}
+use Rattle.morris_wave.specs.declared.graph.Exits.{Exits}
 
 -- a code of an odd number is lost
 abbrev pub is_odd : ℕ → Bool
@@ -12,14 +12,14 @@ abbrev pub is_won_code : ℕ → Bool
 is_won_code c = not (is_odd c) && nat_lt 0 c
 
 -- the least number of a list, if there is one
-abbrev pub least : List ℕ → Option ℕ
-least [] = None
-least (x ∷ xs) = Some (elim (least xs) [ None ↦ x | Some y ↦ min x y ])
+abbrev pub minimum : List ℕ → Option ℕ
+minimum [] = None
+minimum (x ∷ xs) = Some (elim (minimum xs) [ None ↦ x | Some y ↦ min x y ])
 
 -- the greatest number of a list, if there is one
-abbrev pub greatest : List ℕ → Option ℕ
-greatest [] = None
-greatest (x ∷ xs) = Some (elim (greatest xs) [ None ↦ x | Some y ↦ max x y ])
+abbrev pub maximum : List ℕ → Option ℕ
+maximum [] = None
+maximum (x ∷ xs) = Some (elim (maximum xs) [ None ↦ x | Some y ↦ max x y ])
 
 -- the depths of the codes that pass: a depth is one less than its code
 abbrev pub depths : (ℕ → Bool) → List ℕ → List ℕ
@@ -28,8 +28,8 @@ depths p codes = map (λ c. c - 1) (filter p codes)
 -- the least depth of a lost exit, the greatest depth of a won exit, and whether some exit is a draw
 abbrev pub exits_of : List ℕ → Exits
 exits_of codes = record {
-  least_lost = least (depths is_odd codes);
-  greatest_won = greatest (depths is_won_code codes);
+  least_lost = minimum (depths is_odd codes);
+  greatest_won = maximum (depths is_won_code codes);
   drawn = list_any (λ c. c == 0) codes;
 }
 

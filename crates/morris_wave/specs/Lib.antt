@@ -8,7 +8,7 @@ pub mod Summaries
 pub mod Values
 pub mod Waves
 pub mod Solving
-pub mod Keeping
+pub mod NodeRanges
 pub mod Counts
 pub mod Frames
 pub mod Bytes

@@ -1,10 +1,10 @@
 -- What a search reads of exits and marks in entries, while it goes from wave to wave.
 use Rattle.std.specs.Prelude.{◌≡◌, ℕ, ◌<◌, Bool, true, false, List, ◌==◌, if◌then◌else◌, slice_index, slice_index_or, length}
 use Rattle.std.specs.List.{list_any, All}
-use Rattle.morris_wave.specs.declared.network.Exits.{Exits}
+use Rattle.morris_wave.specs.declared.graph.Exits.{Exits}
 use Rattle.morris_wave.specs.Exits.{no_exits}
 use Rattle.morris_wave.specs.Nets.{Net, times}
-use Rattle.morris_wave.specs.Waves.{is_fresh, marked}
+use Rattle.morris_wave.specs.Waves.{is_fresh, mark_code}
 
 -- the exits of the node at a place
 abbrev pub exits_at : List Exits → ℕ → Exits
@@ -16,7 +16,7 @@ among nodes k = list_any (λ x. x == k) nodes
 
 -- the open entries that pass the test got the code
 abbrev pub Marks : List ℕ → List ℕ → (ℕ → Bool) → ℕ → Type 0
-Marks old new test code = (k : ℕ) → k < length old → slice_index new k ≡ marked (slice_index old k) (test k) code
+Marks old new test code = (k : ℕ) → k < length old → slice_index new k ≡ mark_code (slice_index old k) (test k) code
 
 -- every part of the wave is applied
 abbrev pub every : ℕ → Bool

@@ -24,17 +24,17 @@ all_won g won n i = list_all won (g.quiet i) && list_all (is_won_exit n) (g.exit
 -- player whose every result is won for the opponent has lost, also where there is no result at all.
 -- A player with a result that is lost for the opponent has won.
 unfoldable mutual
-  pub is_lost : Net → ℕ → ℕ → Bool
-  is_lost g zero i = false
-  is_lost g (suc n) i = all_won g (is_won g n) n i
+  pub is_lost_before : Net → ℕ → ℕ → Bool
+  is_lost_before g zero i = false
+  is_lost_before g (suc n) i = all_won g (is_won_before g n) n i
 
-  pub is_won : Net → ℕ → ℕ → Bool
-  is_won g zero i = false
-  is_won g (suc n) i = some_lost g (is_lost g n) n i
+  pub is_won_before : Net → ℕ → ℕ → Bool
+  is_won_before g zero i = false
+  is_won_before g (suc n) i = some_lost g (is_lost_before g n) n i
 
 -- a win or a loss in fewer than n plies
 abbrev pub is_decided : Net → ℕ → ℕ → Bool
-is_decided g n i = is_lost g n i || is_won g n i
+is_decided g n i = is_lost_before g n i || is_won_before g n i
 
 -- the depth is the least number of plies within which the node is won or lost
 pub record HasDepth (g : Net) (i depth : ℕ) : Type 0 where
@@ -61,10 +61,10 @@ IsTooDeep g = (i : ℕ) × (i < g.size) × (((depth : ℕ) × (65534 ≤ depth) 
 -- The same counted in plies, as the rules of the game do.
 -- Within n plies is in fewer than n + 1.
 abbrev pub LostWithin : Net → ℕ → ℕ → Type 0
-LostWithin g n i = IsTrue (is_lost g (n + 1) i)
+LostWithin g n i = IsTrue (is_lost_before g (n + 1) i)
 
 abbrev pub WonWithin : Net → ℕ → ℕ → Type 0
-WonWithin g n i = IsTrue (is_won g (n + 1) i)
+WonWithin g n i = IsTrue (is_won_before g (n + 1) i)
 
 -- an exit of an odd code c is lost within n where c - 1 is at most n
 abbrev pub IsExitLost : ℕ → ℕ → Type 0

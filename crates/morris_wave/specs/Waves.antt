@@ -2,19 +2,19 @@
 use Rattle.std.specs.Prelude.{ℕ, zero, suc, Bool, false, not, ◌&&◌, ◌||◌, ◌==◌, if◌then◌else◌}
 use Rattle.std.specs.List.{count_by}
 use Rattle.morris_wave.specs.Nets.{Net}
-use Rattle.morris_wave.specs.declared.network.Exits.{Exits}
+use Rattle.morris_wave.specs.declared.graph.Exits.{Exits}
 use Rattle.morris_wave.specs.Exits.{exits_lost, exits_won}
-use Rattle.morris_wave.specs.Values.{is_lost, is_won, is_decided, some_lost, all_won, code_within}
+use Rattle.morris_wave.specs.Values.{is_lost_before, is_won_before, is_decided, some_lost, all_won, code_within}
 
 -- A node is known at wave n when its depth is at most n - 2, or is n - 1 and the test holds of it:
 -- its block is applied, or the piece of it that the node is in. At wave 0 nothing is known.
 unfoldable pub known_lost : Net → ℕ → (ℕ → Bool) → ℕ → Bool
 known_lost g zero applied j = false
-known_lost g (suc n) applied j = is_lost g n j || (applied j && is_lost g (suc n) j)
+known_lost g (suc n) applied j = is_lost_before g n j || (applied j && is_lost_before g (suc n) j)
 
 unfoldable pub known_won : Net → ℕ → (ℕ → Bool) → ℕ → Bool
 known_won g zero applied j = false
-known_won g (suc n) applied j = is_won g n j || (applied j && is_won g (suc n) j)
+known_won g (suc n) applied j = is_won_before g n j || (applied j && is_won_before g (suc n) j)
 
 -- some exit is lost within n - 1, or some quiet result is known and lost
 abbrev pub is_won_at : Net → ℕ → (ℕ → Bool) → ℕ → Bool
@@ -46,5 +46,5 @@ abbrev pub settles : ℕ → ℕ → Exits → Bool
 settles n counter e = exits_lost n e || ((counter == 0) && exits_won n e)
 
 -- an entry that is still open and passes the test gets the code; a code that is there stays
-abbrev pub marked : ℕ → Bool → ℕ → ℕ
-marked old test code = if (old == 0) && test then code else old
+abbrev pub mark_code : ℕ → Bool → ℕ → ℕ
+mark_code old test code = if (old == 0) && test then code else old

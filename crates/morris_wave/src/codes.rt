@@ -27,7 +27,7 @@ impl Model for Codes {
 
 impl Codes {
     // So many codes of 0.
-    pub(crate) fn zeroed(alloc: Global, count: usize) -> Result<Codes, AllocError>
+    pub(crate) fn make_zeros(alloc: Global, count: usize) -> Result<Codes, AllocError>
         ensures { IfOk result (λ c. c ≡ replicate count 0) }
     {
         let low = vec![in alloc; 0u8; count]?;

@@ -1,6 +1,6 @@
 //! What the nodes of a stretch wait for: a counter each, of 8 bits where that is enough.
 ghost use Rattle.std.specs.Prelude.{◌≡◌, ℕ, ◌+◌, ◌%◌, ◌<◌, ◌≤◌, ◌==◌, nat_lt, IfOk, List, length, slice_index, slice_set};
-ghost use Rattle.morris_wave.specs.Keeping.{left_of};
+ghost use Rattle.morris_wave.specs.NodeRanges.{left_of};
 ghost use Rattle.morris_wave.specs.Counts.{counts_of, most_of, left_of_byte};
 
 use std::alloc::{AllocError, Global};
@@ -25,7 +25,7 @@ pub(crate) trait CounterList: Drop {
     ghost most: { ℕ };
 
     // So many counters, which read 0.
-    fn zeroed(alloc: Global, count: usize) -> Result<Self, AllocError>
+    fn make_zeros(alloc: Global, count: usize) -> Result<Self, AllocError>
         ensures { IfOk result (λ c. length (counts c) ≡ count) };
 
     // Whether the counters are for nodes of so many quiet results.
@@ -47,7 +47,7 @@ pub(crate) trait CounterList: Drop {
         ensures spent { result ≡ (((slice_index (counts self.old) place + 65535) % 65536) == 0) };
 
     // The counters as a block keeps them.
-    fn keep(self) -> Counters
+    fn into_counters(self) -> Counters
         ensures counts { counts_of result ≡ counts self }
         ensures most { most_of result ≡ most };
 }
@@ -59,7 +59,7 @@ impl CounterList for Vec<u8> {
 
     ghost most = { 255 };
 
-    fn zeroed(alloc: Global, count: usize) -> Result<Vec<u8>, AllocError> {
+    fn make_zeros(alloc: Global, count: usize) -> Result<Vec<u8>, AllocError> {
         let counters = vec![in alloc; 0u8; count]?;
         Ok(counters)
     }
@@ -78,7 +78,7 @@ impl CounterList for Vec<u8> {
         count == 0
     }
 
-    fn keep(self) -> Counters {
+    fn into_counters(self) -> Counters {
         Counters::Bytes(self)
     }
 }
@@ -90,7 +90,7 @@ impl CounterList for Vec<u16> {
 
     ghost most = { 65536 };
 
-    fn zeroed(alloc: Global, count: usize) -> Result<Vec<u16>, AllocError> {
+    fn make_zeros(alloc: Global, count: usize) -> Result<Vec<u16>, AllocError> {
         let counters = vec![in alloc; 0u16; count]?;
         Ok(counters)
     }
@@ -109,7 +109,7 @@ impl CounterList for Vec<u16> {
         count == 0
     }
 
-    fn keep(self) -> Counters {
+    fn into_counters(self) -> Counters {
         Counters::Words(self)
     }
 }

@@ -3,7 +3,7 @@ ghost use Rattle.std.specs.Prelude.{◌≡◌, ℕ, ◌+◌, ◌++◌, ◌∷◌
 ghost use Rattle.std.specs.List.{All};
 ghost use Rattle.morris_wave.specs.GapLists.{nodes_of};
 ghost use Rattle.morris_wave.specs.Lists.{contents, list_at};
-ghost use Rattle.morris_wave.specs.Keeping.{ListsDue};
+ghost use Rattle.morris_wave.specs.NodeRanges.{ListsDue};
 
 use crate::gaps::{FAR, Gaps};
 use std::alloc::{AllocError, Global};
@@ -63,7 +63,7 @@ impl Due {
 }
 
 // The last wave, 0 if there is none.
-fn last(waves: &[u16]) -> u16
+fn last_wave(waves: &[u16]) -> u16
     ensures { All (λ wave. wave ≤ result) waves.now }
 {
     let mut last = 0;
@@ -79,7 +79,7 @@ fn count_due(alloc: Global, waves: &[u16]) -> Result<Vec<usize>, AllocError>
     ensures { IfOk result (λ v. All (λ wave. wave < vec_len v) waves.now) }
 {
     let far = waves.len() / FAR as usize;
-    let mut counts = vec![in alloc; far; usize::from(last(waves)) + 1]?;
+    let mut counts = vec![in alloc; far; usize::from(last_wave(waves)) + 1]?;
     for wave in waves {
         if *wave > 0 {
             let count = &mut counts[usize::from(*wave)];

@@ -1,9 +1,9 @@
 //! Ascending nodes, in 2 bytes each.
 ghost use Rattle.std.specs.Prelude.{◌≡◌, ◌+◌, ◌++◌, ◌∷◌, ◌<◌, ◌≤◌, ◌^◌, [], IfOk, OnOk, length};
 ghost use Rattle.std.specs.List.{All};
-ghost use Rattle.morris_wave.specs.Gaps.{numbers_told, next_told};
+ghost use Rattle.morris_wave.specs.Gaps.{numbers_reported, next_reported};
 
-use crate::nodes::NodeList;
+use crate::node_list::NodeList;
 use std::alloc::{AllocError, Global};
 
 // A gap that no node follows.
@@ -22,7 +22,7 @@ pub(crate) struct Gaps {
     // The least node that can come next.
     pub(crate) next: u64,
     pub(crate) gaps: Vec<u16>,
-    ghost told: { next ≡ next_told first gaps.items },
+    ghost reported: { next ≡ next_reported first gaps.items },
     ghost small: { next ≤ 2 ^ 40 },
 }
 
@@ -88,10 +88,10 @@ impl Gaps {
 pub(crate) fn read_gaps<L: NodeList>(from: u64, gaps: &[u16], nodes: &mut L) -> u64
     requires small { from ≤ 2 ^ 40 }
     requires few { length gaps.now ≤ 256 }
-    requires short { All (λ i. i < L.limit) (numbers_told from gaps.now) }
+    requires short { All (λ i. i < L.limit) (numbers_reported from gaps.now) }
     requires room { 256 ≤ L.capacity nodes.old }
-    ensures nodes { L.items nodes.new ≡ numbers_told from gaps.now }
-    ensures next { result ≡ next_told from gaps.now }
+    ensures nodes { L.items nodes.new ≡ numbers_reported from gaps.now }
+    ensures next { result ≡ next_reported from gaps.now }
     ensures room { 256 ≤ L.capacity nodes.new }
 {
     nodes.empty();

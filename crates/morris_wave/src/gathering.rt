@@ -5,11 +5,11 @@ ghost use Rattle.morris_wave.specs.Values.{code_within};
 ghost use Rattle.morris_wave.specs.Blocks.{BlockState, IsCut, first_node, count_of, is_complete};
 ghost use Rattle.morris_wave.specs.Gathering.{complaint, first_complaint, HasAll, IsGatherFault, Fits, ArePlaces, AreKnown, IsGathered};
 
+use crate::block::Block;
 use crate::codes::Codes;
 use crate::cut::Cut;
-use crate::engine::Block;
-use crate::network::Levels;
-use crate::nodes::NodeList;
+use crate::graph::Levels;
+use crate::node_list::NodeList;
 use std::alloc::{AllocError, Global};
 use thiserror::Error;
 
@@ -137,7 +137,7 @@ fn entries_of<N: Levels, L: NodeList>(block: &Block<N, L>) -> &Codes
     ensures codes { is_complete block.now ≡ true → (k : ℕ) → k < count_of block.now
         → slice_index result.now k ≡ code_within (N.net block.now.level) (block.now.wave + 1) (first_node block.now + k) }
 {
-    &block.kept.entries.codes
+    &block.node_range.entries.codes
 }
 
 // The entries of all blocks, in the order of their numbers.
@@ -204,7 +204,7 @@ fn are_in_order<N: Levels, L: NodeList>(blocks: &[Block<N, L>]) -> bool
 
 // The entries of all blocks, which stand in the order of their numbers. Each is let go once it was
 // copied.
-fn drained<N: Levels, L: NodeList>(
+fn drain_codes<N: Levels, L: NodeList>(
     alloc: Global,
     level: u64,
     wave: u16,
@@ -245,6 +245,6 @@ pub fn gather_from<N: Levels, L: NodeList>(
         return gather(alloc, level, wave, cut, &blocks);
     }
     places_of(level, wave, cut, &blocks)?;
-    let codes = drained(alloc, level, wave, cut, blocks)?;
+    let codes = drain_codes(alloc, level, wave, cut, blocks)?;
     Ok(codes)
 }

@@ -4,28 +4,28 @@
 //! node. A [`Watch`] is told how far such work is.
 #![tactic(auto)]
 
+mod block;
 mod codes;
 mod counters;
 mod cut;
 mod due;
-mod engine;
 mod gaps;
 mod gathering;
+mod graph;
 mod listed;
-mod network;
-mod nodes;
+mod node_list;
+mod node_range;
 mod propagate;
 mod reading;
 mod scattering;
-mod stretch;
 mod sweeping;
 mod watch;
 
+pub use block::{AdvanceFault, Applied, Batch, Block, Fresh, Tallies};
 pub use cut::{Blocks, Cut};
-pub use engine::{AdvanceFault, Applied, Batch, Block, Fresh, Tallies};
 pub use gathering::{GatherFault, gather, gather_from};
-pub use network::{Exits, Graph, Levels};
-pub use nodes::{NodeList, Recent};
+pub use graph::{Exits, Graph, Levels};
+pub use node_list::{NodeList, Recent};
 pub use scattering::{scatter, scatter_reusing};
 pub use sweeping::{SweepFault, sweep, sweep_watched};
-pub use watch::{Unwatched, Watch};
+pub use watch::{NoProgress, Watch};

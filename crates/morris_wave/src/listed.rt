@@ -4,10 +4,10 @@ ghost use Rattle.std.specs.List.{All, list_any, count_by};
 ghost use Rattle.morris_wave.specs.Exits.{is_odd, is_won_code};
 ghost use Rattle.morris_wave.specs.Solving.{Marks};
 ghost use Rattle.morris_wave.specs.Nets.{times};
-ghost use Rattle.morris_wave.specs.Keeping.{Ranked};
+ghost use Rattle.morris_wave.specs.NodeRanges.{Ranked};
 
 use crate::codes::Codes;
-use crate::nodes::NodeList;
+use crate::node_list::NodeList;
 use std::alloc::{AllocError, Global};
 
 // The entries of the nodes from `first` on at a wave, how many of them are won and lost, and the
@@ -25,7 +25,7 @@ pub(crate) struct Listed<L: NodeList> {
     pub(crate) decided: L,
     pub(crate) before: usize,
     pub(crate) here: usize,
-    ghost ranked: { Ranked L.keeps first wave codes (L.items decided) before here },
+    ghost ranked: { Ranked L.retains first wave codes (L.items decided) before here },
     ghost room: { length codes ≤ L.capacity decided },
     ghost ends: { first + length codes ≤ 2 ^ 40 },
     ghost short: { first + length codes ≤ L.limit },
@@ -47,7 +47,7 @@ impl<L: NodeList> Listed<L> {
         ensures codes { IfOk result (λ e. e.codes ≡ replicate count 0) }
     {
         let decided = L::with_room(alloc, count)?;
-        let codes = Codes::zeroed(alloc, count)?;
+        let codes = Codes::make_zeros(alloc, count)?;
         Ok(Listed {
             first,
             wave: 0,
@@ -105,7 +105,7 @@ impl<L: NodeList> Listed<L> {
     }
 
     // Whether some entry got its code at this wave.
-    pub(crate) fn has_news(&self) -> bool
+    pub(crate) fn has_fresh(&self) -> bool
         ensures { result ≡ list_any (λ c. c == (self.now.wave + 1)) self.now.codes }
     {
         self.here < self.decided.count()

@@ -4,7 +4,7 @@ ghost use Rattle.std.specs.List.{All};
 ghost use Rattle.morris_wave.specs.Nets.{times};
 ghost use Rattle.morris_wave.specs.Exits.{is_odd};
 ghost use Rattle.morris_wave.specs.Solving.{Marks, among};
-ghost use Rattle.morris_wave.specs.Keeping.{LowersBy, Takes};
+ghost use Rattle.morris_wave.specs.NodeRanges.{LowersBy, Takes};
 ghost use Rattle.morris_wave.specs.Counts.{counts_of, most_of, left_at, FallsLike};
 ghost use Rattle.morris_wave.specs.Frames.{SameFrame};
 ghost use Rattle.morris_wave.specs.GapLists.{nodes_of};
@@ -12,7 +12,7 @@ ghost use Rattle.morris_wave.specs.GapLists.{nodes_of};
 use crate::counters::{CounterList, Counters};
 use crate::gaps::{AT_ONCE, Gaps, read_gaps};
 use crate::listed::Listed;
-use crate::nodes::NodeList;
+use crate::node_list::NodeList;
 
 // Gives each open node of the list its code.
 fn win_all<L: NodeList, B: NodeList>(entries: &mut Listed<L>, nodes: &B)

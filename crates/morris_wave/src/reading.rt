@@ -4,17 +4,17 @@ ghost use Rattle.std.specs.Prelude.{◌≡◌, ◌+◌, ◌-◌, ◌%◌, ◌<�
 ghost use Rattle.morris_wave.specs.Exits.{exits_won, last_due_of};
 ghost use Rattle.morris_wave.specs.Nets.{Net};
 ghost use Rattle.morris_wave.specs.Solving.{Marks, every};
-ghost use Rattle.morris_wave.specs.Keeping.{due_wave, due_within, waits, HasRead, StretchHolds};
+ghost use Rattle.morris_wave.specs.NodeRanges.{due_wave, due_within, waits, HasRead, NodeRangeHolds};
 ghost use Rattle.morris_wave.specs.Counts.{counts_of, most_of, AreFew};
 ghost use Rattle.morris_wave.specs.Frames.{SameFrame};
 
 use crate::counters::CounterList;
 use crate::due::Due;
 use crate::gaps::AT_ONCE;
+use crate::graph::{Exits, Graph};
 use crate::listed::Listed;
-use crate::network::{Exits, Graph};
-use crate::nodes::NodeList;
-use crate::stretch::Stretch;
+use crate::node_list::NodeList;
+use crate::node_range::NodeRange;
 use std::alloc::{AllocError, Global};
 
 // So many nodes are read at a time, so that nothing that was read stays with its node. A graph may
@@ -48,7 +48,7 @@ impl<L: NodeList, C: CounterList> Reading<L, C> {
         // and its pages would be in use for nothing.
         let waves = vec![in alloc; 0u16; count]?;
         let entries = Listed::open(alloc, first, count)?;
-        let counters = C::zeroed(alloc, count)?;
+        let counters = C::make_zeros(alloc, count)?;
         Ok(Reading {
             entries,
             counters,
@@ -74,14 +74,14 @@ impl<L: NodeList, C: CounterList> Reading<L, C> {
         self.entries.mark(place as u64, quiet == 0 && none);
         self.counters.put(place, quiet, u8::from(!none));
         if !none {
-            self.waves[place] = within(exits.due_wave());
+            self.waves[place] = in_16_bits(exits.due_wave());
             self.last_due = self.last_due.max(exits.last_due());
         }
     }
 }
 
 // The wave as far as it ever comes.
-fn within(wave: u32) -> u16
+fn in_16_bits(wave: u32) -> u16
     ensures { result ≡ due_within wave }
 {
     if wave < 65535 { wave as u16 } else { 0 }
@@ -155,7 +155,7 @@ fn read_with<G: Graph, L: NodeList, C: CounterList>(
     graph: &G,
     first: u64,
     end: u64,
-) -> Result<Option<Stretch<L>>, AllocError>
+) -> Result<Option<NodeRange<L>>, AllocError>
     requires order { first ≤ end }
     requires end { end ≤ (G.Name.net (G.level graph.now)).size }
     requires small { end ≤ 2 ^ 40 }
@@ -164,7 +164,7 @@ fn read_with<G: Graph, L: NodeList, C: CounterList>(
     ensures wave { IfOk result (λ read. IfSome read (λ s. s.entries.wave ≡ 0)) }
     ensures len { IfOk result (λ read. IfSome read (λ s. length s.entries.codes ≡ end - first)) }
     ensures few { IfOk result (λ read. IfSome read (λ s. AreFew (G.Name.net (G.level graph.now)) first (end - first) (most_of s.counters))) }
-    ensures holds { IfOk result (λ read. IfSome read (λ s. StretchHolds (G.Name.net (G.level graph.now)) 0 every first
+    ensures holds { IfOk result (λ read. IfSome read (λ s. NodeRangeHolds (G.Name.net (G.level graph.now)) 0 every first
         s.entries.codes (counts_of s.counters) s.due s.last_due)) }
     ensures wide { 65535 < C.most → IfOk result (λ read. IsSome read) }
 {
@@ -182,16 +182,16 @@ fn read_with<G: Graph, L: NodeList, C: CounterList>(
         waves: _,
         last_due,
     } = reading;
-    Ok(Some(Stretch {
+    Ok(Some(NodeRange {
         entries,
-        counters: counters.keep(),
+        counters: counters.into_counters(),
         due,
         last_due,
         piece,
     }))
 }
 
-impl<L: NodeList> Stretch<L> {
+impl<L: NodeList> NodeRange<L> {
     // The nodes from `first` up to, not including, `end`, before the first wave. They are read
     // once; where a counter of 8 bits has no room for some node, all of them once more.
     pub(crate) fn read<G: Graph>(
@@ -199,7 +199,7 @@ impl<L: NodeList> Stretch<L> {
         graph: &G,
         first: u64,
         end: u64,
-    ) -> Result<Stretch<L>, AllocError>
+    ) -> Result<NodeRange<L>, AllocError>
         requires order { first ≤ end }
         requires end { end ≤ (G.Name.net (G.level graph.now)).size }
         requires small { end ≤ 2 ^ 40 }
@@ -208,14 +208,14 @@ impl<L: NodeList> Stretch<L> {
         ensures wave { IfOk result (λ s. s.entries.wave ≡ 0) }
         ensures len { IfOk result (λ s. length s.entries.codes ≡ end - first) }
         ensures few { IfOk result (λ s. AreFew (G.Name.net (G.level graph.now)) first (end - first) (most_of s.counters)) }
-        ensures holds { IfOk result (λ s. StretchHolds (G.Name.net (G.level graph.now)) 0 every first
+        ensures holds { IfOk result (λ s. NodeRangeHolds (G.Name.net (G.level graph.now)) 0 every first
             s.entries.codes (counts_of s.counters) s.due s.last_due) }
     {
-        if let Some(stretch) = read_with::<G, L, Vec<u8>>(alloc, graph, first, end)? {
-            return Ok(stretch);
+        if let Some(node_range) = read_with::<G, L, Vec<u8>>(alloc, graph, first, end)? {
+            return Ok(node_range);
         }
         match read_with::<G, L, Vec<u16>>(alloc, graph, first, end)? {
-            Some(stretch) => Ok(stretch),
+            Some(node_range) => Ok(node_range),
             None => unreachable!(),
         }
     }

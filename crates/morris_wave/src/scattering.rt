@@ -5,10 +5,10 @@ ghost use Rattle.morris_wave.specs.Batches.{BatchState, BatchHolds};
 ghost use Rattle.morris_wave.specs.Lists.{contents, list_at};
 ghost use Rattle.morris_wave.specs.Scattering.{AreSorted, Deals, LeadTo, batch_of, IsBatchOf};
 
+use crate::block::{Batch, Fresh};
 use crate::cut::{Cut, Finder};
-use crate::engine::{Batch, Fresh};
-use crate::network::{Graph, Levels};
-use crate::nodes::{NodeList, put_into};
+use crate::graph::{Graph, Levels};
+use crate::node_list::{NodeList, put_into};
 use std::alloc::{AllocError, Global};
 use std::marker::PhantomData;
 
@@ -56,9 +56,9 @@ fn deal<L: NodeList>(lists: &mut Vec<L>, finder: &Finder, nodes: &[u64]) -> Resu
     ensures dealt { OnOk result (Deals finder.now.cut (contents L.items lists.old.items) (contents L.items lists.new.items) nodes.now) }
 {
     // A copy stays in registers: what is written to the lists might change one in memory.
-    let kept = *finder;
+    let saved = *finder;
     for node in nodes {
-        put_into(lists, kept.find(*node) as usize, *node)?;
+        put_into(lists, saved.find(*node) as usize, *node)?;
     }
     Ok(())
 }

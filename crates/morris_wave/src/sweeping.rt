@@ -5,10 +5,10 @@ ghost use Rattle.morris_wave.specs.Values.{HasCode, IsTooDeep, PlyRules, CodeRul
 ghost use Rattle.morris_wave.specs.Solving.{every, none};
 ghost use Rattle.morris_wave.specs.Frames.{IsWhole};
 
-use crate::network::Graph;
-use crate::nodes::NodeList;
-use crate::stretch::Stretch;
-use crate::watch::{Unwatched, Watch};
+use crate::graph::Graph;
+use crate::node_list::NodeList;
+use crate::node_range::NodeRange;
+use crate::watch::{NoProgress, Watch};
 use std::alloc::{AllocError, Global};
 use thiserror::Error;
 
@@ -39,7 +39,7 @@ const LAST_WAVE: u16 = 65534;
 // Goes back from each fresh node of the wave, and takes in what leads there.
 fn spread<G: Graph, L: NodeList>(
     graph: &G,
-    whole: &mut Stretch<L>,
+    whole: &mut NodeRange<L>,
     back: &mut Vec<u64>,
 ) -> Result<(), AllocError>
     requires start { IsWhole (G.Name.net (G.level graph.now)) none whole.old }
@@ -58,7 +58,7 @@ fn spread<G: Graph, L: NodeList>(
 fn run<G: Graph, L: NodeList, W: Watch>(
     alloc: Global,
     graph: &G,
-    whole: &mut Stretch<L>,
+    whole: &mut NodeRange<L>,
     watch: &mut W,
 ) -> Result<bool, AllocError>
     requires wave { whole.old.entries.wave ≡ 0 }
@@ -85,7 +85,7 @@ fn run<G: Graph, L: NodeList, W: Watch>(
 fn codes_of<G: Graph, W: Watch>(
     alloc: Global,
     graph: &G,
-    whole: &mut Stretch<Vec<u64>>,
+    whole: &mut NodeRange<Vec<u64>>,
     watch: &mut W,
 ) -> Result<Vec<u16>, SweepFault>
     requires wave { whole.old.entries.wave ≡ 0 }
@@ -132,7 +132,7 @@ pub fn sweep<G: Graph>(alloc: Global, graph: &G) -> Result<Vec<u16>, SweepFault>
     // And it tells who wins: codes of lost nodes are odd, those of won nodes even.
     ensures outcome { CodeRules (G.Name.net (G.level graph.now)) }
 {
-    sweep_watched(alloc, graph, &mut Unwatched)
+    sweep_watched(alloc, graph, &mut NoProgress)
 }
 
 /// [`sweep`], which tells `watch` of each wave as it begins: of waves 1, 2, .. and of no wave where
@@ -158,6 +158,6 @@ pub fn sweep_watched<G: Graph, W: Watch>(
     // The watch is as it may be after it was told, whatever the answer.
     ensures watched { W.becomes watch.old watch.new }
 {
-    let mut whole: Stretch<Vec<u64>> = Stretch::read(alloc, graph, 0, graph.size())?;
+    let mut whole: NodeRange<Vec<u64>> = NodeRange::read(alloc, graph, 0, graph.size())?;
     codes_of(alloc, graph, &mut whole, watch)
 }

@@ -28,9 +28,9 @@ pub trait Watch {
 
 /// A watch for work of which nobody is told anything.
 #[derive(Clone, Copy)]
-pub struct Unwatched;
+pub struct NoProgress;
 
-impl Watch for Unwatched {
+impl Watch for NoProgress {
     ghost use Rattle.std.specs.Prelude.{refl};
     ghost use Rattle.std.proofs.Common.{◌∙◌};
 

@@ -545,11 +545,11 @@ value_at c rows a r h found known =
     let pass : values_pass a r.values ≡ true = subst (λ (x : Rule). values_pass x r.values ≡ true) is p.passes in
     let v = first_values a r.values p.some pass in
     let reading : r.reading ≡ reading_by a = p.reading ∙ ap reading_by is in
-    let texts = texts_at a.id rows r (reading_by a) v.0 found reading v.1 in
+    let strings = texts_at a.id rows r (reading_by a) v.0 found reading v.1 in
     record {
       first = v.0;
-      is_first = texts.0;
-      read = texts.1;
+      is_first = strings.0;
+      read = strings.1;
       passes = v.2;
     }
 

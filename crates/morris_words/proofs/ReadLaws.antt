@@ -18,8 +18,8 @@ use Rattle.clap.specs.Walk.{Row, Text, first_of, one_of, row_text, rows_of}
 use Rattle.clap.specs.declared.parser.matches.Found.{Found}
 use Rattle.clap.specs.declared.error.kind.ErrorKind.TheVariants.{ArgumentConflict}
 use Rattle.morris_words.specs.Words.{AreArgs, Is, IsAnswerTo, IsAnswerToOneOf, IsArg, IsLimit, clashes, has_clash, is_on, with_rules}
-use Rattle.morris_words.specs.declared.words.Refusal.{Refusal}
-use Rattle.morris_words.specs.declared.words.Refusal.TheVariants.{Memory, Help, Version, Wrong}
+use Rattle.morris_words.specs.declared.arguments.Refusal.{Refusal}
+use Rattle.morris_words.specs.declared.arguments.Refusal.TheVariants.{Memory, Help, Version, Wrong}
 
 -- a command with one argument more
 pub with_arg : (before : Command) (arg : Arg) (after : Command) (a : App) (r : Rule) → Is a before → IsArg r arg → AddsArg before arg after

@@ -26,8 +26,8 @@ use Rattle.morris_words.specs.declared.request.Show.{Show}
 use Rattle.morris_words.specs.declared.request.Show.TheVariants.{Best, Moves, Line, Csv}
 use Rattle.morris_words.specs.declared.request.Task.{Task}
 use Rattle.morris_words.specs.declared.request.Task.TheVariants.{Look, Stats, Build, Verify, Probe, Lookup, Find}
-use Rattle.morris_words.specs.declared.words.Refusal.{Refusal}
-use Rattle.morris_words.specs.declared.words.Refusal.TheVariants.{Memory, Help, Version, Wrong}
+use Rattle.morris_words.specs.declared.arguments.Refusal.{Refusal}
+use Rattle.morris_words.specs.declared.arguments.Refusal.TheVariants.{Memory, Help, Version, Wrong}
 
 -- ---- the commands
 
@@ -251,7 +251,7 @@ AsksForTask name rows (Probe asked) =
     (name ≡ codes "probe") × (first_of (codes "BOARD") rows ≡ Some asked.board.now) × (first_of (codes "TEXT") rows ≡ Some asked.text.now)
 AsksForTask name rows (Lookup asked) =
     (name ≡ codes "lookup") × (first_of (codes "BOARD") rows ≡ Some asked.board.now) × (first_of (codes "from") rows ≡ Some asked.from.now)
-    × IsShown rows asked.show × (unwrap_or (all_of (codes "TEXT") rows) [] ≡ map (λ t. t.now) asked.texts.items)
+    × IsShown rows asked.show × (unwrap_or (all_of (codes "TEXT") rows) [] ≡ map (λ t. t.now) asked.strings.items)
 AsksForTask name rows (Find asked) =
     (name ≡ codes "find") × (first_of (codes "BOARD") rows ≡ Some asked.board.now) × (first_of (codes "PAIR") rows ≡ Some asked.pair.now)
     × (first_of (codes "VALUE") rows ≡ Some asked.value.now) × (first_of (codes "from") rows ≡ Some asked.from.now)

@@ -2,6 +2,6 @@
 //! the text of the help.
 #![tactic(auto)]
 
+pub mod arguments;
 mod help;
 pub mod request;
-pub mod words;

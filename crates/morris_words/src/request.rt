@@ -108,7 +108,7 @@ pub struct Lookup<'a> {
     /// What is shown of each position.
     pub show: Show,
     /// The texts that write the positions; where there are none, the lines of the input do.
-    pub texts: Vec<&'a str>,
+    pub strings: Vec<&'a str>,
 }
 
 /// Show the positions of a pair that have a value, by the file of the pair in a folder.

@@ -11,7 +11,7 @@ use Rattle.morris_wave.specs.Nets.{times}
 use Rattle.morris_wave.proofs.Dealing.{times_push}
 use Rattle.morris_workers.specs.declared.draws.Plan.{Plan}
 use Rattle.morris_workers.specs.declared.draws.View.{View}
-use Rattle.morris_workers.specs.Draws.{Kept, Drew, done, drawing, with_number, ended_view}
+use Rattle.morris_workers.specs.Draws.{IsTicketRule, Drew, done, drawing, with_number, ended_view}
 use Rattle.morris_workers.proofs.TicketSums.{sum_set, sum_part, sum_less}
 
 -- 1 for a number below another
@@ -40,7 +40,7 @@ rearrange a b t t' c h e = omega arith
 done_none : (v : View) → v.ended ≡ false → 0 < v.stands → done v ≡ 0
 done_none v ready stands = rw ready (grind (arith, nat_tests))
 
-module _ (p : Plan) (s : State (Unit {0}) View) (kept : Kept p s) where
+module _ (p : Plan) (s : State (Unit {0}) View) (kept : IsTicketRule p s) where
   -- the word can't wrap
   pub far : slice_index s.words 0 ≤ p.limit + 64
   far = omega (arith, kept.passed, kept.seats, kept.few_seats, sum_less done (λ v. 1 + v.splits) done_most s.views)
@@ -58,7 +58,7 @@ module _ (p : Plan) (s : State (Unit {0}) View) (kept : Kept p s) where
         → min (slice_index s.words 0) p.limit + length w.drawn ≡ min m p.limit + length v.drawn
         → (w.ended ≡ true → p.limit ≤ m)
         → m + done v ≤ p.limit + sum_by done s.views + done w
-        → Kept p after
+        → IsTicketRule p after
     changed stands limit splits stays more once lengths ended passed = record {
       one_word = length-set s.words 0 m ∙ kept.one_word;
       small_limit = kept.small_limit;
@@ -82,7 +82,7 @@ module _ (p : Plan) (s : State (Unit {0}) View) (kept : Kept p s) where
     word = slice_index s.words 0
 
     -- a seat that found a number has it at the end of its list
-    took : word < p.limit → Kept p (after seat v (with_number v word) (word + 1) there)
+    took : word < p.limit → IsTicketRule p (after seat v (with_number v word) (word + 1) there)
     took under = changed seat v (with_number v word) (word + 1) there stands refl refl refl (omega arith)
         (λ x. rearrange _ _ _ _ _ (times_push x word v.drawn) (one_more x word p.limit under))
         (omega (arith, length-append v.drawn (word ∷ [])))
@@ -90,7 +90,7 @@ module _ (p : Plan) (s : State (Unit {0}) View) (kept : Kept p s) where
         (omega arith)
 
     -- a seat that found no number left has ended
-    missed : p.limit ≤ word → Kept p (after seat v (ended_view v) (word + 1) there)
+    missed : p.limit ≤ word → IsTicketRule p (after seat v (ended_view v) (word + 1) there)
     missed past = changed seat v (ended_view v) (word + 1) there stands refl refl refl (omega arith)
         (λ x. ap (λ n. n + times x v.drawn) (no_more x word p.limit past))
         (omega arith)
@@ -103,18 +103,18 @@ module _ (p : Plan) (s : State (Unit {0}) View) (seat : ℕ) (me : Me (Unit {0})
   found = slice_index s.words 0
 
   abbrev Done : Type 0
-  Done = (w : View) × (a : Act (Unit {0})) × Valid s.homes me.1 a × Kept p (stepped s 0 raised seat me.1 w a) × Drew me found (w, carried_after me.1 a)
+  Done = (w : View) × (a : Act (Unit {0})) × Valid s.homes me.1 a × IsTicketRule p (stepped s 0 raised seat me.1 w a) × Drew me found (w, carried_after me.1 a)
 
-  drew : (w : View) → me.0.limit ≡ p.limit → w ≡ drawing me.0 found → raised ≡ found + 1 → Kept p (record { words = set s.words 0 (found + 1); homes = s.homes; views = set s.views seat w }) → Done
+  drew : (w : View) → me.0.limit ≡ p.limit → w ≡ drawing me.0 found → raised ≡ found + 1 → IsTicketRule p (record { words = set s.words 0 (found + 1); homes = s.homes; views = set s.views seat w }) → Done
   drew w limit is e kept = (
     w,
     keeps,
     tt,
-    subst (λ n. Kept p (record { words = set s.words 0 n; homes = s.homes; views = set s.views seat w })) (sym e) kept,
+    subst (λ n. IsTicketRule p (record { words = set s.words 0 n; homes = s.homes; views = set s.views seat w })) (sym e) kept,
     record { view = is; slots = refl; few = omega (arith, kept.lengths, sum_set (λ u. length u.drawn) s.views seat me.0 w there, sum_part (λ u. length u.drawn) s.views seat me.0 there) },
   )
 
-  drew_either : Kept p s → me.0.ended ≡ false → 0 < me.0.stands → me.0.limit ≡ p.limit → raised ≡ found + 1 → Done
+  drew_either : IsTicketRule p s → me.0.ended ≡ false → 0 < me.0.stands → me.0.limit ≡ p.limit → raised ≡ found + 1 → Done
   drew_either kept ready stands limit e =
       ⊎_elim (λ h. drew (with_number me.0 found) limit (sym (cond-true (nat_lt found me.0.limit) (with_number me.0 found) (ended_view me.0) (lt-ltb found me.0.limit h))) e
       (took p s kept seat me.0 there stands ready (omega arith)))
@@ -124,7 +124,7 @@ module _ (p : Plan) (s : State (Unit {0}) View) (seat : ℕ) (me : Me (Unit {0})
 
 -- Whatever the counter is when the word is raised by 1, the draw keeps its rule.
 pub draws : (p : Plan) (slots seat : ℕ) (me : Me (Unit {0}) View) → me.0.ended ≡ false → 0 < me.0.stands
-    → Allows (Kept p) slots seat me 0 (λ n. (n + 1) % 18446744073709551616) (λ n after. Drew me n after)
+    → Allows (IsTicketRule p) slots seat me 0 (λ n. (n + 1) % 18446744073709551616) (λ n after. Drew me n after)
 draws p slots seat me ready stands = λ s kept homes there room.
     drew_either p s seat me there ((slice_index s.words 0 + 1) % 18446744073709551616) kept ready stands (kept.limits seat me.0 there stands)
     (omega (arith, far p s kept, kept.small_limit))

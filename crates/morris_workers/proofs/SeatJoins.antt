@@ -11,7 +11,7 @@ use Rattle.morris_wave.specs.Nets.{times}
 use Rattle.morris_wave.proofs.Ranks.{times-append}
 use Rattle.morris_workers.specs.declared.draws.Plan.{Plan}
 use Rattle.morris_workers.specs.declared.draws.View.{View}
-use Rattle.morris_workers.specs.Draws.{Kept, done, joined, spent_view}
+use Rattle.morris_workers.specs.Draws.{IsTicketRule, done, join_views, spent_view}
 use Rattle.morris_workers.proofs.TicketSums.{sum_set}
 
 -- two terms change, and what they add up to stays
@@ -26,16 +26,16 @@ flags false true m n x y = grind (arith, nat_tests)
 flags false false m n x y = grind (arith, nat_tests)
 
 -- a joined seat and a spent one count for as many that will draw no more as the two did
-done_more : (v w : View) → 0 < v.stands → 0 < w.stands → done v + done w ≤ done (joined v w) + done spent_view
+done_more : (v w : View) → 0 < v.stands → 0 < w.stands → done v + done w ≤ done (join_views v w) + done spent_view
 done_more v w a b = flags v.ended w.ended v.stands w.stands a b
 
 -- A seat takes in another.
-pub joins : (p : Plan) (seat other : ℕ) (v w : View) → 0 < v.stands → 0 < w.stands → Joins (Kept p) seat v other w (joined v w) spent_view
+pub joins : (p : Plan) (seat other : ℕ) (v w : View) → 0 < v.stands → 0 < w.stands → Joins (IsTicketRule p) seat v other w (join_views v w) spent_view
 joins p seat other v w a b = λ s kept there apart also.
-    let one : List View = set s.views seat (joined v w) in
+    let one : List View = set s.views seat (join_views v w) in
     let views : List View = set one other spent_view in
-    let sums = λ (f : View → ℕ). moved f s.views seat other v w (joined v w) spent_view there also in
-    let was : get_elem? s.views other ≡ some w = sym (set_else s.views seat other (joined v w) apart) ∙ also in
+    let sums = λ (f : View → ℕ). moved f s.views seat other v w (join_views v w) spent_view there also in
+    let was : get_elem? s.views other ≡ some w = sym (set_else s.views seat other (join_views v w) apart) ∙ also in
     record {
       one_word = kept.one_word;
       small_limit = kept.small_limit;
@@ -44,15 +44,15 @@ joins p seat other v w a b = λ s kept there apart also.
       lengths = (let h = sums (λ u. length u.drawn) in omega (arith, length-append v.drawn w.drawn)) ∙ kept.lengths;
       ended = λ j u e h. ⊎_elim (λ t. absurd (false≢true (ap (λ (z : View). z.ended) t.1 ∙ h)))
           (λ t. ⊎_elim (λ k. ⊎_elim (λ m. kept.ended seat v there m) (λ m. kept.ended other w was m) (or_cases v.ended w.ended (ap (λ (z : View). z.ended) k.1 ∙ h)))
-          (λ k. kept.ended j u k.1 h) (at_set s.views seat j (joined v w) u t.1))
+          (λ k. kept.ended j u k.1 h) (at_set s.views seat j (join_views v w) u t.1))
           (at_set one other j spent_view u e);
       passed = let h = sums done in omega (arith, kept.passed, done_more v w a b);
       seats = (let h = sums (λ u. 1 + u.splits) in omega arith) ∙ kept.seats;
-      stands = let h = sums (λ u. u.stands) in omega (arith, kept.stands, length-set one other spent_view, length-set s.views seat (joined v w));
+      stands = let h = sums (λ u. u.stands) in omega (arith, kept.stands, length-set one other spent_view, length-set s.views seat (join_views v w));
       spent = λ j u e h. ⊎_elim (λ t. sym (ap (λ (z : View). z.drawn) t.1))
-          (λ t. ⊎_elim (λ k. absurd (omega (arith, ap (λ (z : View). z.stands) k.1, h))) (λ k. kept.spent j u k.1 h) (at_set s.views seat j (joined v w) u t.1))
+          (λ t. ⊎_elim (λ k. absurd (omega (arith, ap (λ (z : View). z.stands) k.1, h))) (λ k. kept.spent j u k.1 h) (at_set s.views seat j (join_views v w) u t.1))
           (at_set one other j spent_view u e);
       limits = λ j u e h. ⊎_elim (λ t. absurd (omega (arith, ap (λ (z : View). z.stands) t.1, h)))
-          (λ t. ⊎_elim (λ k. sym (ap (λ (z : View). z.limit) k.1) ∙ kept.limits seat v there a) (λ k. kept.limits j u k.1 h) (at_set s.views seat j (joined v w) u t.1))
+          (λ t. ⊎_elim (λ k. sym (ap (λ (z : View). z.limit) k.1) ∙ kept.limits seat v there a) (λ k. kept.limits j u k.1 h) (at_set s.views seat j (join_views v w) u t.1))
           (at_set one other j spent_view u e);
     }

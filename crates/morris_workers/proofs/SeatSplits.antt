@@ -10,7 +10,7 @@ use Rattle.atomic_table.proofs.Lists.{at_set, at_snoc}
 use Rattle.morris_wave.specs.Nets.{times}
 use Rattle.morris_workers.specs.declared.draws.Plan.{Plan}
 use Rattle.morris_workers.specs.declared.draws.View.{View}
-use Rattle.morris_workers.specs.Draws.{Kept, done, dealer, newcomer}
+use Rattle.morris_workers.specs.Draws.{IsTicketRule, done, dealer, newcomer}
 use Rattle.morris_workers.proofs.TicketSums.{sum_set}
 
 -- one term changes, and one comes at the end
@@ -18,7 +18,7 @@ grown : {A : Type 0} (f : A → ℕ) (l : List A) (i : ℕ) (v w u : A) → get_
 grown f l i v w u e = omega (arith, sum_by_push f (set l i w) u, sum_set f l i v w e)
 
 -- A seat with a split left gives a new seat.
-pub splits : (p : Plan) (seat : ℕ) (v : View) → 0 < v.splits → 0 < v.stands → Splits (Kept p) seat v (dealer v) (newcomer v)
+pub splits : (p : Plan) (seat : ℕ) (v : View) → 0 < v.splits → 0 < v.stands → Splits (IsTicketRule p) seat v (dealer v) (newcomer v)
 splits p seat v left stands = λ s kept there.
     let views : List View = set s.views seat (dealer v) ++ newcomer v ∷ [] in
     let more = λ (f : View → ℕ). grown f s.views seat v (dealer v) (newcomer v) there in

@@ -12,7 +12,7 @@ use Rattle.morris_wave.specs.Nets.{times}
 use Rattle.morris_wave.proofs.Ranks.{times_some}
 use Rattle.morris_workers.specs.declared.draws.Plan.{Plan}
 use Rattle.morris_workers.specs.declared.draws.View.{View}
-use Rattle.morris_workers.specs.Draws.{Kept, Counted, spent_view}
+use Rattle.morris_workers.specs.Draws.{IsTicketRule, Counted, spent_view}
 use Rattle.morris_workers.proofs.TicketSums.{sum_part, sum_less, sum_alone}
 
 bit_most : (x n : ℕ) → (if nat_lt x n then 1 else 0) ≤ 1
@@ -32,7 +32,7 @@ ones : (l : List View) → sum_by (λ v. 1) l ≡ length l
 ones [] = refl
 ones (x ∷ xs) = omega (arith, sum_by-cons (λ (v : View). 1) x xs, ones xs)
 
-module _ (p : Plan) (s : State (Unit {0}) View) (kept : Kept p s) (seat : ℕ) (v : View) (there : get_elem? s.views seat ≡ some v) where
+module _ (p : Plan) (s : State (Unit {0}) View) (kept : IsTicketRule p s) (seat : ℕ) (v : View) (there : get_elem? s.views seat ≡ some v) where
   abbrev all : ℕ
   all = min (slice_index s.words 0) p.limit
 
@@ -65,7 +65,7 @@ head_is [] n e = absurd (some-ne-none n (sym e))
 head_is (x ∷ xs) n e = some-injective x n e
 
 -- the same of the numbers as the program has them
-pub counted_at : (p : Plan) (s : State (Unit {0}) View) → Kept p s → (seat : ℕ) (v : View) → get_elem? s.views seat ≡ some v → (word limit handed : ℕ)
+pub counted_at : (p : Plan) (s : State (Unit {0}) View) → IsTicketRule p s → (seat : ℕ) (v : View) → get_elem? s.views seat ≡ some v → (word limit handed : ℕ)
     → get_elem? s.words 0 ≡ some word → p.limit ≡ limit → handed ≡ min word limit → Counted limit p.seats v handed
 counted_at p s kept seat v there word limit handed read same is =
     let e : min (slice_index s.words 0) p.limit ≡ handed = (λ i. min (head_is s.words word read i) (same i)) ∙ sym is in

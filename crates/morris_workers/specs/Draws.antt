@@ -15,7 +15,7 @@ abbrev pub done : View → ℕ
 done v = if v.ended || (v.stands == 0) then 1 else 0
 
 -- the rule: what holds of the word and of all views between any two steps
-pub record Kept (p : Plan) (s : State (Unit {0}) View) : Type 0 where
+pub record IsTicketRule (p : Plan) (s : State (Unit {0}) View) : Type 0 where
   pub one_word : length s.words ≡ 1
   pub small_limit : p.limit ≤ 1000000
   pub few_seats : p.seats ≤ 64
@@ -64,8 +64,8 @@ pub record Drew (before : Me (Unit {0}) View) (n : ℕ) (after : Me (Unit {0}) V
   pub few : length after.0.drawn ≤ before.0.limit
 
 -- a seat to which another was joined, and what is left of the other
-abbrev pub joined : View → View → View
-joined v w = record { limit = v.limit; drawn = v.drawn ++ w.drawn; splits = v.splits + w.splits; ended = v.ended || w.ended; stands = v.stands + w.stands }
+abbrev pub join_views : View → View → View
+join_views v w = record { limit = v.limit; drawn = v.drawn ++ w.drawn; splits = v.splits + w.splits; ended = v.ended || w.ended; stands = v.stands + w.stands }
 
 abbrev pub spent_view : View
 spent_view = record { limit = 0; drawn = []; splits = 0; ended = false; stands = 0 }

@@ -26,9 +26,9 @@ pub(crate) struct View {
 pub(crate) struct Draws;
 
 impl TableRule<(), View, Plan> for Draws {
-    ghost use Rattle.morris_workers.specs.Draws.{Kept, first_view};
+    ghost use Rattle.morris_workers.specs.Draws.{IsTicketRule, first_view};
 
-    ghost holds = { Kept };
+    ghost holds = { IsTicketRule };
 
     ghost first = { first_view };
 }
@@ -57,9 +57,9 @@ impl Split<View> for Deal {
 pub(crate) struct Gathering;
 
 impl Join<View> for Gathering {
-    ghost use Rattle.morris_workers.specs.Draws.{joined, spent_view};
+    ghost use Rattle.morris_workers.specs.Draws.{join_views, spent_view};
 
-    ghost both = { joined };
+    ghost both = { join_views };
 
     ghost spent = { spent_view };
 }

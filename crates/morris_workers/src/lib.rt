@@ -17,7 +17,7 @@ mod yard;
 
 pub use fault::SolveFault;
 pub use gate::{Gate, OpenGate, Turn};
-pub use morris_wave::{Unwatched, Watch};
+pub use morris_wave::{NoProgress, Watch};
 pub use solver::{SHORT_NODES, check_numbers, solve, solve_with};
 pub use tickets::{Drawn, TicketSeat, Tickets};
 pub use wave::PIECE_NODES;

@@ -7,7 +7,7 @@ ghost use Rattle.morris_workers.specs.Tickets.{IsNewSeatOf};
 
 use crate::fault::{LAST_WAVE, SolveFault};
 use crate::tickets::{TicketSeat, Tickets};
-use morris_wave::{Block, Cut, Graph, Levels, NodeList, Unwatched, Watch};
+use morris_wave::{Block, Cut, Graph, Levels, NoProgress, NodeList, Watch};
 use std::alloc::{AllocError, Global};
 use std::thread;
 use std::thread::Threads;
@@ -26,7 +26,7 @@ fn make_drawn<L: NodeList, G: Graph, W: Watch>(
     requires plan { IsPlan (G.Name.net (G.level graph.now)) L.limit cut.now tickets.now }
     requires seat { IsNewSeatOf tickets.now seat.old }
     ensures drawn { AreDrawn tickets.now (G.Name.net (G.level graph.now)) seat.new result }
-    ensures told { W.becomes watch.old watch.new }
+    ensures reported { W.becomes watch.old watch.new }
 {
     let mut made = Vec::new(alloc);
     while let Some(number) = tickets.draw(seat) {
@@ -69,7 +69,7 @@ fn make_all<L: NodeList + Send, G: Graph + Sync, R: Threads + Sync, W: Watch>(
     requires new { All (IsNewSeatOf tickets.now) seats.old }
     ensures count { length seats.new ≡ length seats.old }
     ensures drawn { AreAllDrawn tickets.now (G.Name.net (G.level graph.now)) seats.new result }
-    ensures told { W.becomes watch.old watch.new }
+    ensures reported { W.becomes watch.old watch.new }
 {
     let Some((last, rest)) = seats.split_last_mut() else {
         return Ok(Vec::new(alloc));
@@ -80,7 +80,7 @@ fn make_all<L: NodeList + Send, G: Graph + Sync, R: Threads + Sync, W: Watch>(
     let mut aside = || -> Result<Vec<Block<G::Name, L>>, SolveFault>
         requires { IsPlan (G.Name.net (G.level graph.now)) L.limit cut.now tickets.now × IsNewSeatOf tickets.now last.now }
         ensures { AreDrawn tickets.entry.now (G.Name.net (G.level graph.entry.now)) last.exit.now result }
-    { make_drawn::<L, G, Unwatched>(alloc, graph, cut, tickets, last, &mut Unwatched) };
+    { make_drawn::<L, G, NoProgress>(alloc, graph, cut, tickets, last, &mut NoProgress) };
     let mut here = || -> Result<Vec<Block<G::Name, L>>, SolveFault>
         requires { IsPlan (G.Name.net (G.level graph.now)) L.limit cut.now tickets.now × All (IsNewSeatOf tickets.now) rest.now }
         ensures { (length rest.exit.now ≡ length rest.entry.now)
@@ -119,7 +119,7 @@ pub(crate) fn make_blocks<L: NodeList + Send, G: Graph + Sync, R: Threads + Sync
     requires size { cut.now.size ≡ (G.Name.net (G.level graph.now)).size }
     requires short { cut.now.size ≤ L.limit }
     ensures share { IsShare (G.Name.net (G.level graph.now)) 0 cut.now.blocks result }
-    ensures told { W.becomes watch.old watch.new }
+    ensures reported { W.becomes watch.old watch.new }
 {
     // Tickets have at most 64 seats.
     let workers = shares.blocks().min(64) as usize;

@@ -12,7 +12,7 @@ use crate::making::make_blocks;
 use crate::wave::Site;
 use crate::wave_barrier::WaveBarrier;
 use crate::yard::Yard;
-use morris_wave::{Block, Cut, Graph, Levels, NodeList, Recent, Unwatched, Watch, gather_from};
+use morris_wave::{Block, Cut, Graph, Levels, NoProgress, NodeList, Recent, Watch, gather_from};
 use std::alloc::Global;
 use std::sync::Wait;
 use std::thread::Threads;
@@ -105,7 +105,7 @@ fn solve_as<
     requires shares { shares.now.size ≡ cut.now.blocks }
     requires workers { shares.now.blocks ≤ 64 }
     ensures codes { IfOk result (AreCodes (G.Name.net (G.level graph.now))) }
-    ensures told { IfErr result (Tells (G.Name.net (G.level graph.now)) cut.now.blocks) }
+    ensures reported { IfErr result (Tells (G.Name.net (G.level graph.now)) cut.now.blocks) }
     ensures watched { W.becomes watch.old watch.new }
 {
     // The proof learns here that there are some blocks and workers.
@@ -172,7 +172,7 @@ pub fn solve<G: Graph + Send + Sync, A: Gate, R: Threads + Wait + Sync>(
     // And it tells who wins: codes of lost nodes are odd, those of won nodes even.
     ensures outcome { CodeRules (G.Name.net (G.level graph.now)) }
 {
-    let watch = &mut Unwatched;
+    let watch = &mut NoProgress;
     solve_with(rt, alloc, graph, gate, workers, blocks, SHORT_NODES, watch)
 }
 

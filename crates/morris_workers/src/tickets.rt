@@ -38,7 +38,7 @@ pub struct Drawn {
 }
 
 impl Tickets {
-    ghost use Rattle.morris_workers.specs.Draws.{joined, Counted};
+    ghost use Rattle.morris_workers.specs.Draws.{join_views, Counted};
     ghost use Rattle.morris_workers.specs.Tickets.{IsSeatOf, IsNewSeatOf, limit_of, seats_of, numbers_of, all_numbers, has_ended};
     ghost use Rattle.morris_workers.specs.TicketSteps.{IsFirstSeat, IsJoined, splits_of};
 
@@ -184,7 +184,7 @@ impl Tickets {
         requires all { (all.old.table_id ≡ self.now.table.shared.table_id) × (0 < all.old.me.0.stands) }
         requires seat { IsSeatOf self.now seat }
         ensures table { all.new.table_id ≡ all.old.table_id }
-        ensures view { all.new.me ≡ (joined all.old.me.0 seat.seat.me.0, all.old.me.1) }
+        ensures view { all.new.me ≡ (join_views all.old.me.0 seat.seat.me.0, all.old.me.1) }
     {
         let TicketSeat {
             seat: other,

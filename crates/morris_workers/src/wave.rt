@@ -12,7 +12,7 @@ use crate::tickets::{TicketSeat, Tickets};
 use crate::wave_barrier::WaveBarrier;
 use crate::yard::Yard;
 use morris_wave::{
-    Batch, Block, Cut, Fresh, Graph, Levels, NodeList, Unwatched, Watch, scatter_reusing,
+    Batch, Block, Cut, Fresh, Graph, Levels, NoProgress, NodeList, Watch, scatter_reusing,
 };
 use std::alloc::{AllocError, Global};
 use std::sync::Wait;
@@ -21,7 +21,7 @@ use std::thread::Threads;
 
 // A worker puts lists that were sent aside as long as all of them together have no more bytes of
 // room than this.
-const KEPT_ROOM: usize = 524288;
+const SPARE_ROOM: usize = 524288;
 
 /// A worker goes back from at most so many fresh nodes of a block at a time, and sends what leads
 /// to them before it goes on. So the batches stay small, however much a block finds.
@@ -80,7 +80,7 @@ impl<N: Levels, L: NodeList> Outbox<N, L> {
         self.fresh = 0;
         let mut room = room_of(&self.spare);
         while let Some(batches) = self.pieces.pop() {
-            room = keep_room(batches, &mut self.spare, room)?;
+            room = spare_room(batches, &mut self.spare, room)?;
         }
         Ok(())
     }
@@ -107,7 +107,7 @@ fn room_of<L: NodeList>(lists: &[L]) -> usize {
 
 // Puts lists of batches that were sent aside for later ones, beside others that have so much room.
 // What goes past the room to be kept is let go. Answers the room of all that are aside.
-fn keep_room<N: Levels, L: NodeList>(
+fn spare_room<N: Levels, L: NodeList>(
     mut batches: Vec<Batch<N, L>>,
     spare: &mut Vec<L>,
     mut room: usize,
@@ -115,7 +115,7 @@ fn keep_room<N: Levels, L: NodeList>(
     while let Some(batch) = batches.pop() {
         let list = batch.into_nodes();
         let with_list = room.saturating_add(list.room());
-        if with_list <= KEPT_ROOM {
+        if with_list <= SPARE_ROOM {
             spare.push(list)?;
             room = with_list;
         }
@@ -275,7 +275,7 @@ impl<L: NodeList, G: Graph, A: Gate, R: Wait> Site<'_, L, G, A, R> {
         watch: &mut W,
     ) -> Result<bool, AllocError>
         requires worker { worker < self.now.shares.now.blocks }
-        ensures told { W.becomes watch.old watch.new }
+        ensures reported { W.becomes watch.old watch.new }
     {
         self.finish(worker, outbox)?;
         if !self.barrier.wait(self.rt, wave) {
@@ -301,7 +301,7 @@ impl<L: NodeList, G: Graph, A: Gate, R: Wait> Site<'_, L, G, A, R> {
     ) -> Result<bool, AllocError>
         requires worker { worker < self.now.shares.now.blocks }
         requires source { source < self.now.yard.now }
-        ensures told { W.becomes watch.old watch.new }
+        ensures reported { W.becomes watch.old watch.new }
     {
         if wave != outbox.wave && !self.enter(worker, wave, outbox, watch)? {
             return Ok(false);
@@ -333,7 +333,7 @@ impl<L: NodeList, G: Graph, A: Gate, R: Wait> Site<'_, L, G, A, R> {
         requires seat { IsNewSeatOf tickets.now seat.old }
         ensures seat { IsSeatOf tickets.now seat.new }
         ensures drawn { OnOk result (HasDrawn seat.new) }
-        ensures told { W.becomes watch.old watch.new }
+        ensures reported { W.becomes watch.old watch.new }
     {
         let blocks = self.yard.count() as u64;
         let first = outbox.wave.saturating_add(1);
@@ -361,7 +361,7 @@ impl<L: NodeList, G: Graph, A: Gate, R: Wait> Site<'_, L, G, A, R> {
         requires worker { worker < self.now.shares.now.blocks }
         requires seat { IsNewSeatOf tickets.now seat.old }
         ensures back { IsBack tickets.now HasDrawn result.1 seat.new }
-        ensures told { W.becomes watch.old watch.new }
+        ensures reported { W.becomes watch.old watch.new }
     {
         let mut outbox = Outbox::new(self.alloc, wave);
         let sent = self.draw_all(tickets, worker, seat, &mut outbox, watch);
@@ -399,7 +399,7 @@ impl<L: NodeList + Send + Sync, G: Graph + Sync, A: Gate, R: Threads + Wait + Sy
         requires new { All (IsNewSeatOf tickets.now) seats.old }
         ensures count { length seats.new ≡ length seats.old }
         ensures back { All (IsBack tickets.now HasDrawn result.1) seats.new }
-        ensures told { W.becomes watch.old watch.new }
+        ensures reported { W.becomes watch.old watch.new }
     {
         let Some((seat, rest)) = seats.split_first_mut() else {
             return (wave, Ok(()));
@@ -410,7 +410,7 @@ impl<L: NodeList + Send + Sync, G: Graph + Sync, A: Gate, R: Threads + Wait + Sy
         let mut aside = || -> (u16, Result<(), AllocError>)
             requires { (first < self.now.shares.now.blocks) × IsNewSeatOf tickets.now seat.now }
             ensures { IsBack tickets.entry.now HasDrawn result.1 seat.exit.now }
-        { self.work(tickets, first, wave, seat, &mut Unwatched) };
+        { self.work(tickets, first, wave, seat, &mut NoProgress) };
         let mut here = || -> (u16, Result<(), AllocError>)
             requires { (first + 1 + length rest.now ≤ self.now.shares.now.blocks) × All (IsNewSeatOf tickets.now) rest.now }
             ensures { (length rest.exit.now ≡ length rest.entry.now) × All (IsBack tickets.entry.now HasDrawn result.1) rest.exit.now
@@ -442,12 +442,12 @@ impl<L: NodeList + Send + Sync, G: Graph + Sync, A: Gate, R: Threads + Wait + Sy
             self.shares.blocks() as usize,
         )?;
         self.barrier.begin(self.rt, wave.saturating_add(1));
-        let (told, sent) = self.work_all(&tickets, 0, wave, seats.as_mut_slice(), watch);
+        let (reported, sent) = self.work_all(&tickets, 0, wave, seats.as_mut_slice(), watch);
         // All seats are back, so the numbers that were drawn are those that the workers had.
         let _ = tickets.close(seats);
         // Where there are no more numbers, nobody goes to the wave that has begun last.
         let last = self.barrier.wave(self.rt).min(wave_after(wave, waves));
-        tell(watch, told, last);
+        tell(watch, reported, last);
         sent.and(Ok(last))
     }
 
@@ -459,7 +459,7 @@ impl<L: NodeList + Send + Sync, G: Graph + Sync, A: Gate, R: Threads + Wait + Sy
     /// `Memory` where memory is refused. `Missing` with the least number of a block that isn't
     /// complete, otherwise `TooDeep` where one isn't settled at the last wave.
     pub(crate) fn run<W: Watch>(&self, watch: &mut W) -> Result<u16, SolveFault>
-        ensures told { IfErr result (Tells (G.Name.net (G.level self.now.graph.now)) self.now.yard.now) }
+        ensures reported { IfErr result (Tells (G.Name.net (G.level self.now.graph.now)) self.now.yard.now) }
         ensures watched { W.becomes watch.old watch.new }
     {
         let mut wave = 0;

@@ -31,7 +31,7 @@ impl<N: Levels, L: NodeList> Model for Yard<N, L> {
 
 // Looks at the block of a guard. Of what stands behind a lock nothing is known but what every block
 // keeps, and the block tells that to whoever asks for its cut.
-fn looked_at<N: Levels, L: NodeList>(
+fn with_facts<N: Levels, L: NodeList>(
     guard: MutexGuard<'_, Block<N, L>>,
 ) -> MutexGuard<'_, Block<N, L>>
     ensures block { IsBlock (N.net (mutex_guard_value result).level) (mutex_guard_value result) }
@@ -82,7 +82,7 @@ impl<N: Levels, L: NodeList> Yard<N, L> {
         // And so do the words of the graph.
         ensures exact { IsExact (N.net (mutex_guard_value result).level) (mutex_guard_value result) }
     {
-        looked_at(self.locks[k].lock(rt))
+        with_facts(self.locks[k].lock(rt))
     }
 
     /// Locks block `k` if it is free, and waits for nobody.
@@ -94,7 +94,7 @@ impl<N: Levels, L: NodeList> Yard<N, L> {
         ensures exact { IfSome result (λ guard. IsExact (N.net (mutex_guard_value guard).level) (mutex_guard_value guard)) }
     {
         let guard = self.locks[k].try_lock()?;
-        Some(looked_at(guard))
+        Some(with_facts(guard))
     }
 
     /// Gives the blocks back, in their order. It takes no memory and waits for nobody.

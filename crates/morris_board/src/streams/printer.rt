@@ -2,7 +2,7 @@
 //! in few writes. Printing answers nothing: what became of it is asked once, at the end.
 ghost use Rattle.std.specs.Prelude.{◌≡◌, ◌+◌, ◌≤◌, [], ◌∷◌, ◌++◌, length};
 ghost use Rattle.std.specs.Fmt.{decimal};
-ghost use Rattle.morris_board.specs.Printers.{IsNew, LetsOut, Takes, failed_of, held_of, lent_of, outlet, outlet_of, sink_of, told_of};
+ghost use Rattle.morris_board.specs.Printers.{IsNew, LetsOut, Takes, has_failed_of, held_of, lent_of, outlet, outlet_of, sink_of, answer_of};
 
 use super::{Sink, put};
 use arrayvec::ArrayVec;
@@ -106,7 +106,7 @@ impl<'a, S: Sink> Printer<'a, S> {
 
     /// Whether a write failed.
     pub fn has_failed(&self) -> bool
-        ensures { result ≡ failed_of self.now }
+        ensures { result ≡ has_failed_of self.now }
     {
         self.failed
     }
@@ -116,7 +116,7 @@ impl<'a, S: Sink> Printer<'a, S> {
     pub fn finish(&mut self) -> Result<u64, u64>
         ensures takes { Takes S.contents S.failures self.old self.new [] }
         ensures empty { held_of self.new ≡ [] }
-        ensures told { result ≡ told_of self.new }
+        ensures told { result ≡ answer_of self.new }
     {
         self.flush();
         if self.failed {

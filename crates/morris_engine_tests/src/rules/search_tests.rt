@@ -4,10 +4,10 @@ use crate::rules::texts::position;
 use morris_board::board::Geometry;
 use morris_board::grid::Grid;
 use morris_board::nine::Nine;
+use morris_moves::game_move::Move;
 use morris_moves::look_ahead::within;
 use morris_moves::rules::{is_legal, play};
-use morris_moves::search::Within;
-use morris_moves::step::Move;
+use morris_moves::within::Within;
 use std::process::Abort;
 
 /// The search to so many plies finds this in the position that a text shows.

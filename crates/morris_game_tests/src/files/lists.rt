@@ -1,9 +1,9 @@
 // The list of digests in a folder in memory: what is kept of an old one, and what is written.
 use crate::memory::MemoryFolder;
 use morris_board::grid::Grid;
-use morris_files::digests::write_list;
+use morris_files::checksum_list::write_list;
 use morris_files::folder::Folder;
-use morris_files::old_list::{ListFault, kept_lines};
+use morris_files::old_checksums::{ListFault, retained_lines};
 use morris_files::whole::Step;
 use morris_index::pair::Pair;
 use std::alloc::Global;
@@ -53,7 +53,7 @@ abcdef0123456789abcdef0123456789abcdef0123456789abcdef0123456789\n\
 abcdef0123456789abcdef0123456789abcdef0123456789abcdef0123456789  grid-5-4.nmmt\r\n";
 
 /// What is kept of this list where a build of the pair replaces files, as the caller is answered.
-fn keeps(
+fn retains(
     alloc: Global,
     list: Option<&[u8]>,
     pair: (u8, u8),
@@ -68,9 +68,9 @@ fn keeps(
             return false;
         }
     }
-    let kept = kept_lines(alloc, &mut folder, "grid", pair);
-    let same = match (&kept, wanted) {
-        (Ok(kept), Ok(wanted)) => kept.as_slice() == wanted,
+    let retained = retained_lines(alloc, &mut folder, "grid", pair);
+    let same = match (&retained, wanted) {
+        (Ok(retained), Ok(wanted)) => retained.as_slice() == wanted,
         (Err(fault), Err(wanted)) => *fault == wanted,
         _ => false,
     };
@@ -80,9 +80,9 @@ fn keeps(
 #[test]
 fn the_lines_of_files_that_stay_are_kept(rt: HostRuntime) {
     let alloc = rt.alloc();
-    assert!(rt; keeps(alloc, Some(FIVE), (4, 3), Ok(THREE)));
+    assert!(rt; retains(alloc, Some(FIVE), (4, 3), Ok(THREE)));
     assert!(rt;
-        keeps(
+        retains(
             alloc,
             Some(FIVE),
             (5, 3),
@@ -93,14 +93,14 @@ abcdef0123456789abcdef0123456789abcdef0123456789abcdef0123456789  grid-5-4.nmmt\
             )
         )
     );
-    assert!(rt; keeps(alloc, Some(FIVE), (5, 4), Ok(b"")));
-    assert!(rt; keeps(alloc, Some(THREE), (3, 3), Ok(THREE)));
+    assert!(rt; retains(alloc, Some(FIVE), (5, 4), Ok(b"")));
+    assert!(rt; retains(alloc, Some(THREE), (3, 3), Ok(THREE)));
 }
 
 #[test]
 fn nothing_is_kept_of_no_list(rt: HostRuntime) {
-    assert!(rt; keeps(rt.alloc(), None, (3, 3), Ok(b"")));
-    assert!(rt; keeps(rt.alloc(), Some(b""), (3, 3), Ok(b"")));
+    assert!(rt; retains(rt.alloc(), None, (3, 3), Ok(b"")));
+    assert!(rt; retains(rt.alloc(), Some(b""), (3, 3), Ok(b"")));
 }
 
 /// Whether nothing of `OTHERS` is kept beside its neighbours, which stand before and after it.
@@ -108,14 +108,19 @@ fn drops_others(alloc: Global) -> Option<bool> {
     let mut list = Vec::from_slice(alloc, THREE).ok()?;
     list.extend_from_slice(OTHERS).ok()?;
     list.extend_from_slice(LAST).ok()?;
-    let mut kept = Vec::from_slice(alloc, THREE).ok()?;
-    kept.extend_from_slice(LAST).ok()?;
-    Some(keeps(alloc, Some(list.as_slice()), (4, 3), Ok(kept.as_slice())))
+    let mut retained = Vec::from_slice(alloc, THREE).ok()?;
+    retained.extend_from_slice(LAST).ok()?;
+    Some(retains(
+        alloc,
+        Some(list.as_slice()),
+        (4, 3),
+        Ok(retained.as_slice()),
+    ))
 }
 
 #[test]
 fn other_lines_are_dropped(rt: HostRuntime) {
-    assert!(rt; keeps(rt.alloc(), Some(OTHERS), (3, 3), Ok(b"")));
+    assert!(rt; retains(rt.alloc(), Some(OTHERS), (3, 3), Ok(b"")));
     assert!(rt; drops_others(rt.alloc()) == Some(true));
 }
 
@@ -123,10 +128,10 @@ fn other_lines_are_dropped(rt: HostRuntime) {
 fn the_last_line_of_a_list_may_have_no_line_feed(rt: HostRuntime) {
     let alloc = rt.alloc();
     let short = LAST.split_last().expect(&rt, "the last line").1;
-    assert!(rt; keeps(alloc, Some(short), (4, 3), Ok(LAST)));
-    assert!(rt; keeps(alloc, Some(short), (5, 4), Ok(b"")));
+    assert!(rt; retains(alloc, Some(short), (4, 3), Ok(LAST)));
+    assert!(rt; retains(alloc, Some(short), (5, 4), Ok(b"")));
     let shorter = short.split_last().expect(&rt, "the last line").1;
-    assert!(rt; keeps(alloc, Some(shorter), (4, 3), Ok(b"")));
+    assert!(rt; retains(alloc, Some(shorter), (4, 3), Ok(b"")));
 }
 
 /// So many lines of FIVE's last pair, and then so many blanks.
@@ -146,10 +151,17 @@ fn long_list(alloc: Global, lines: usize, blanks: usize) -> Option<Vec<u8>> {
 fn a_list_that_is_too_long_is_refused(rt: HostRuntime) {
     let alloc = rt.alloc();
     let list = long_list(alloc, 819, 16).expect(&rt, "room for a list");
-    let kept = long_list(alloc, 819, 0).expect(&rt, "room for a list");
-    assert!(rt; keeps(alloc, Some(list.as_slice()), (4, 3), Ok(kept.as_slice())));
+    let retained = long_list(alloc, 819, 0).expect(&rt, "room for a list");
+    assert!(rt;
+        retains(
+            alloc,
+            Some(list.as_slice()),
+            (4, 3),
+            Ok(retained.as_slice())
+        )
+    );
     let list = long_list(alloc, 819, 17).expect(&rt, "room for a list");
-    assert!(rt; keeps(alloc, Some(list.as_slice()), (4, 3), Err(ListFault::Long)));
+    assert!(rt; retains(alloc, Some(list.as_slice()), (4, 3), Err(ListFault::Long)));
 }
 
 #[test]
@@ -157,8 +169,8 @@ fn a_list_that_cannot_be_opened_is_refused(rt: HostRuntime) {
     let pair = Pair::<Grid>::new(4, 3).ok().expect(&rt, "a pair");
     let mut folder = MemoryFolder::new(rt.alloc(), 1, 0);
     assert!(rt; folder.put("grid.sha256", FIVE).is_ok());
-    let kept = kept_lines(rt.alloc(), &mut folder, "grid", pair);
-    assert!(rt; kept.err() == Some(ListFault::Unopened));
+    let retained = retained_lines(rt.alloc(), &mut folder, "grid", pair);
+    assert!(rt; retained.err() == Some(ListFault::Unopened));
     assert!(rt; folder.failures() == 1 && folder.get("grid.sha256") == Some(FIVE));
 }
 

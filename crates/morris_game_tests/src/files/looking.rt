@@ -8,7 +8,7 @@ use morris_lookup::opened::Opened;
 use morris_lookup::outcomes::outcomes;
 use morris_lookup::storage::Storage;
 use morris_lookup::tables::Tables;
-use morris_moves::step::Move;
+use morris_moves::game_move::Move;
 use morris_pairs::layout::Layout;
 use morris_pairs::value::Value;
 use std::alloc::Global;
@@ -38,7 +38,7 @@ fn quiet(from: u8, to: u8) -> Move {
 }
 
 /// Whether the files tell this value and these best moves of a position.
-fn is_told<S: Storage>(
+fn is_reported<S: Storage>(
     alloc: Global,
     tables: &Tables<Grid, S>,
     text: &[u8],
@@ -58,14 +58,14 @@ fn is_told<S: Storage>(
 fn are_told<S: Storage>(alloc: Global, tables: &Tables<Grid, S>) -> bool {
     let drawn = [quiet(0, 6), quiet(1, 7), quiet(2, 8)];
     let winning = [taking(8, 2, 4), taking(8, 2, 5), taking(8, 2, 7)];
-    is_told(alloc, tables, b"XXXOOO...", Value::Draw, &drawn)
-        && is_told(alloc, tables, b"XXX.OO.O.", Value::Won(3), &[quiet(2, 3)])
-        && is_told(alloc, tables, b"XX..OO.OX", Value::Won(1), &winning)
-        && is_told(alloc, tables, b"XX.OOO...", Value::Lost(0), &[])
+    is_reported(alloc, tables, b"XXXOOO...", Value::Draw, &drawn)
+        && is_reported(alloc, tables, b"XXX.OO.O.", Value::Won(3), &[quiet(2, 3)])
+        && is_reported(alloc, tables, b"XX..OO.OX", Value::Won(1), &winning)
+        && is_reported(alloc, tables, b"XX.OOO...", Value::Lost(0), &[])
 }
 
 /// The value that a move leads to.
-fn led_to<S: Storage>(
+fn value_after<S: Storage>(
     alloc: Global,
     tables: &Tables<Grid, S>,
     text: &[u8],
@@ -97,8 +97,8 @@ fn plies<S: Storage>(alloc: Global, tables: &Tables<Grid, S>, text: &[u8]) -> Op
 /// opponent win at once where it could have been stopped, and how long two lines are.
 fn is_right<S: Storage>(alloc: Global, tables: &Tables<Grid, S>) -> bool {
     are_told(alloc, tables)
-        && led_to(alloc, tables, b"XX..OO.OX", taking(8, 2, 4)) == Some(Value::Won(1))
-        && led_to(alloc, tables, b"XX..OO.OX", quiet(8, 3)) == Some(Value::Won(3))
+        && value_after(alloc, tables, b"XX..OO.OX", taking(8, 2, 4)) == Some(Value::Won(1))
+        && value_after(alloc, tables, b"XX..OO.OX", quiet(8, 3)) == Some(Value::Won(3))
         && plies(alloc, tables, b"XXX.OO.O.") == Some(3)
         && plies(alloc, tables, b"OO.OXX.X.") == Some(2)
 }

@@ -5,7 +5,7 @@ use morris_files::folder::Folder;
 use morris_files::reason::Reason;
 use morris_files::system::SystemFolder;
 use morris_files::whole::{NotWhole, Step, write_whole};
-use morris_workers::Unwatched;
+use morris_workers::NoProgress;
 use std::fs::File;
 use std::io::ErrorKind;
 use std::os::unix::fs::symlink;
@@ -39,7 +39,7 @@ fn writes<R: Files<File = File> + AllocGlobal>(rt: &R, path: &str, first: &[u8])
         &mut folder,
         "kept",
         &Two(first, b"er"),
-        &mut Unwatched,
+        &mut NoProgress,
     )
     .is_ok()
 }
@@ -72,7 +72,7 @@ fn a_folder_that_is_not_there_is_refused(rt: HostRuntime) {
         &mut folder,
         "kept",
         &Two(b"new", b"er"),
-        &mut Unwatched,
+        &mut NoProgress,
     );
     let refused = NotWhole {
         step: Step::Create,
@@ -182,7 +182,7 @@ fn a_folder_under_the_name_of_a_part_is_refused(rt: HostRuntime) {
         &mut folder,
         "kept",
         &Two(b"new", b"er"),
-        &mut Unwatched,
+        &mut NoProgress,
     );
     let refused = NotWhole {
         step: Step::Create,

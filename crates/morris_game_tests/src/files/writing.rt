@@ -3,7 +3,7 @@ use crate::files::text::Two;
 use crate::memory::MemoryFolder;
 use morris_files::folder::Folder;
 use morris_files::whole::{NotWhole, Step, write_whole};
-use morris_workers::Unwatched;
+use morris_workers::NoProgress;
 use std::alloc::Global;
 use std::process::Abort;
 
@@ -17,7 +17,7 @@ fn writes(alloc: Global, calls: u64, failing: u64) -> Option<(Result<(), NotWhol
         &mut folder,
         "kept",
         &Two(b"new", b"er"),
-        &mut Unwatched,
+        &mut NoProgress,
     );
     let answer = answer.map(|_| ());
     let wanted = if answer.is_ok() {
@@ -58,7 +58,7 @@ fn a_file_is_whole_where_its_name_may_not_last(rt: HostRuntime) {
         &mut folder,
         "kept",
         &Two(b"new", b"er"),
-        &mut Unwatched,
+        &mut NoProgress,
     );
     let refused = NotWhole {
         step: Step::Settle,
@@ -80,7 +80,7 @@ fn a_part_that_was_left_is_replaced(rt: HostRuntime) {
         &mut folder,
         "kept",
         &Two(b"new", b"er"),
-        &mut Unwatched,
+        &mut NoProgress,
     );
     assert!(rt; answer.is_ok());
     assert!(rt; folder.get("kept") == Some(b"newer".as_slice()));

@@ -3,7 +3,7 @@ use morris_board::grid::Grid;
 use morris_board::position::Position;
 use morris_board::streams::{FromRead, IntoWrite};
 use morris_index::pair::Pair;
-use morris_moves::step::Move;
+use morris_moves::game_move::Move;
 use morris_pairs::reading::read_next;
 use morris_pairs::shelf::Shelf;
 use morris_pairs::sweeping::sweep_pair;

@@ -55,8 +55,8 @@ fn assert_ends_writing(
     room: u64,
 ) {
     let mut sink = Counting::new(alloc, 1, room as usize);
-    let is_told = write_table(&mut sink, table) == Err(Write(room));
-    holds(rt, is_told, "a write fails");
+    let is_reported = write_table(&mut sink, table) == Err(Write(room));
+    holds(rt, is_reported, "a write fails");
     same(rt, sink.calls, room.saturating_add(1), "writes");
     let taken = file.get(..room as usize).expect(rt, "bytes");
     same_bytes(rt, sink.taken.as_slice(), taken);

@@ -6,7 +6,7 @@ use morris_pairs::layout::Layout;
 use morris_pairs::raw::Raw;
 use morris_pairs::table_set::TableSet;
 use morris_pairs::verify::VerifyFault;
-use morris_workers::Unwatched;
+use morris_workers::NoProgress;
 use std::alloc::Global;
 use std::process::Abort;
 use std::thread::Threads;
@@ -20,7 +20,7 @@ fn assert_told<R: Abort + Threads + Sync>(rt: &R, alloc: Global, workers: usize,
     let raw = raw.ok().expect(rt, "a code for each position");
     let tables = TableSet::new(alloc).expect(rt, "memory");
     let (_, fault) = raw
-        .verify_watched(rt, alloc, &tables, workers, &mut Unwatched)
+        .verify_watched(rt, alloc, &tables, workers, &mut NoProgress)
         .err()
         .expect(rt, "a fault");
     holds(rt, fault == VerifyFault::Differs(wanted), "entry");

@@ -38,7 +38,7 @@ fn assert_tells_four<R: Abort + Threads + Wait + Sync>(
         rt, alloc, tables, pair, layout, gate, watch, workers, blocks,
     );
     holds(rt, built.is_ok(), "built");
-    assert_four(rt, scribe.told.as_slice());
+    assert_four(rt, scribe.waves.as_slice());
 }
 
 #[test]
@@ -66,7 +66,7 @@ fn assert_waves_before<R: Abort + Threads + Wait + Sync>(
     let gate = &ShutGate;
     let refused = build_watched(rt, alloc, tables, pair, layout, gate, watch, workers, 5).err();
     holds(rt, refused == Some(fault), "fault");
-    same(rt, scribe.told.len() as u64, waves, "waves");
+    same(rt, scribe.waves.len() as u64, waves, "waves");
 }
 
 /// A watch is told nothing of a build in a layout that is refused before its first wave.
@@ -95,7 +95,7 @@ fn a_watch_is_told_the_waves_of_a_sweep(rt: HostRuntime) {
     let mut scribe = Scribe::new(rt.alloc());
     let swept = sweep_pair_watched(rt.alloc(), &shelf, pair(&rt, 3, 3), &mut scribe);
     holds(&rt, swept.is_ok(), "swept");
-    assert_four(&rt, scribe.told.as_slice());
+    assert_four(&rt, scribe.waves.as_slice());
 }
 
 /// So many entries of 3-3 are told to be done by workers who verify its table, and no wave.
@@ -111,7 +111,7 @@ fn assert_told_of_verifying<R: Abort + Threads + Wait + Sync>(
     let raw = built(rt, alloc, &empty(rt, alloc), pair(rt, 3, 3), layout).into_raw();
     let mut scribe = Scribe::new(alloc);
     let verified = raw.verify_watched(rt, alloc, &tables, workers, &mut scribe);
-    holds(rt, verified.is_ok() && scribe.told.is_empty(), "verified");
+    holds(rt, verified.is_ok() && scribe.waves.is_empty(), "verified");
     same(rt, scribe.done, entries, "entries");
 }
 

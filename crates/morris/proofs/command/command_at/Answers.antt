@@ -1,10 +1,10 @@
 -- Want of memory is answered, with nothing printed.
 use Rattle.std.proofs.Common.{◌≡◌, ◌∙◌, ℕ, Bool, false, List, None, Option, refl, inl, inr, map, subst, sym, true, Err}
-use Rattle.morris.specs.Command.{AsksToRead, TellsProgress, folder_of, takes_input}
+use Rattle.morris.specs.Command.{AsksToRead, ReportsProgress, folder_of, takes_input}
 use Rattle.morris.specs.Reporting.{ReportsAt}
-use Rattle.morris_jobs.specs.Progress.{Becomes, TellsInOrder, has_begun_of, rewrites_of, sink_of, tells_of}
+use Rattle.morris_jobs.specs.Progress.{Becomes, ReportsInOrder, has_begun_of, rewrites_of, sink_of, reports_of}
 use Rattle.morris_jobs.specs.ProgressLaws.{Becomes-in_order, Becomes-joins}
-use Rattle.morris_jobs.specs.declared.progress.Progress.{Progress}
+use Rattle.morris_jobs.specs.declared.progress_printer.ProgressPrinter.{ProgressPrinter}
 use Rattle.morris_words.specs.Words.{IsAnswerToOneOf, faults_of, named_by}
 use Rattle.std.proofs.KnownBytes.{Keeps-refl}
 use Rattle.morris_jobs.specs.declared.fault.Fault.TheVariants as fault
@@ -55,13 +55,13 @@ returns-in-Ok-clause-unread g c = λ unasked. c.run-done.ensures.unread (reads_n
     reads_nothing unasked false is = is
 
 -- What a command told is what the error sink got: some lines, or none where nobody is to be told.
-module _ {R E : Type 0} (contents : E → Option (List ℕ)) (failures : E → ℕ) (first last : Progress R E) (tells : Becomes contents failures first last)
+module _ {R E : Type 0} (contents : E → Option (List ℕ)) (failures : E → ℕ) (first last : ProgressPrinter R E) (reports : Becomes contents failures first last)
     (on_terminal : Bool) (old new : E) (rewrites : rewrites_of first ≡ on_terminal) (start : sink_of first ≡ old) (here : new ≡ sink_of last) where
-  told_in_order : has_begun_of first ≡ false → TellsInOrder contents failures on_terminal old new
-  told_in_order begun = rw (here, sym start, sym rewrites) (Becomes-in_order contents failures first last begun tells)
+  told_in_order : has_begun_of first ≡ false → ReportsInOrder contents failures on_terminal old new
+  told_in_order begun = rw (here, sym start, sym rewrites) (Becomes-in_order contents failures first last begun reports)
 
-  told_nothing : tells_of first ≡ false → new ≡ old
-  told_nothing unasked = here ∙ ((tells.silent unasked).1 ∙ start)
+  told_nothing : reports_of first ≡ false → new ≡ old
+  told_nothing unasked = here ∙ ((reports.silent unasked).1 ∙ start)
 
 -- A command was run for the words, and told how far it is only where they ask for it.
 pub returns-in-Ok-clause-answer : goal.returns-in-Ok-clause-answer
@@ -69,7 +69,7 @@ returns-in-Ok-clause-answer g c = λ other. (
   c.run-done.result,
   c.errors-1.given.0,
   inl (c.in-Ok.request, c.in-Ok.ensures.request, c.in-Ok.ensures.taken, c.run-done.ensures.answer),
-  told (c.in-Ok.request.progress) refl,
+  written (c.in-Ok.request.progress) refl,
   c.finish.ensures.status,
   (
     folder_of c.in-Ok.request.task,
@@ -80,30 +80,30 @@ returns-in-Ok-clause-answer g c = λ other. (
   ),
 )
   where
-    tells : Becomes g.E.Sink.contents g.E.Sink.failures c.new-progress.result c.clear.new.self
-    tells = Becomes-joins g.E.Sink.contents g.E.Sink.failures c.new-progress.result c.run-done.new.teller c.clear.new.self c.run-done.ensures.told c.clear.ensures.told
+    reports : Becomes g.E.Sink.contents g.E.Sink.failures c.new-progress.result c.clear.new.self
+    reports = Becomes-joins g.E.Sink.contents g.E.Sink.failures c.new-progress.result c.run-done.new.progress c.clear.new.self c.run-done.ensures.written c.clear.ensures.reported
 
     here : c.errors-1.given.0 ≡ sink_of c.clear.new.self
-    here = c.errors-1.given.1 (sym (tells.same ∙ c.new-progress.ensures.lent))
+    here = c.errors-1.given.1 (sym (reports.same ∙ c.new-progress.ensures.lent))
 
-    told : (b : Bool) → c.in-Ok.request.progress ≡ b
-        → TellsProgress g.E.Sink.contents g.E.Sink.failures (map g.W.AsStr.text c.args.words.now) c.args.terminals.errors c.args.errors.now
+    written : (b : Bool) → c.in-Ok.request.progress ≡ b
+        → ReportsProgress g.E.Sink.contents g.E.Sink.failures (map g.W.AsStr.text c.args.words.now) c.args.terminals.errors c.args.errors.now
         c.errors-1.given.0
-    told true is =
+    written true is =
         inr (
           c.in-Ok.request,
           c.in-Ok.ensures.request,
           is,
-          told_in_order g.E.Sink.contents g.E.Sink.failures c.new-progress.result c.clear.new.self tells c.args.terminals.errors
+          told_in_order g.E.Sink.contents g.E.Sink.failures c.new-progress.result c.clear.new.self reports c.args.terminals.errors
               c.args.errors.now c.errors-1.given.0 c.new-progress.ensures.rewrites c.new-progress.ensures.sink here c.new-progress.ensures.new,
         )
-    told false is =
-        inl (told_nothing g.E.Sink.contents g.E.Sink.failures c.new-progress.result c.clear.new.self tells c.args.terminals.errors
-        c.args.errors.now c.errors-1.given.0 c.new-progress.ensures.rewrites c.new-progress.ensures.sink here (c.new-progress.ensures.tells ∙ is))
+    written false is =
+        inl (told_nothing g.E.Sink.contents g.E.Sink.failures c.new-progress.result c.clear.new.self reports c.args.terminals.errors
+        c.args.errors.now c.errors-1.given.0 c.new-progress.ensures.rewrites c.new-progress.ensures.sink here (c.new-progress.ensures.reports ∙ is))
 
 -- There is room for a failure more.
 pub finish-requires : goal.finish-requires
 finish-requires g c =
     let here : c.errors-1.given.0 ≡ sink_of c.clear.new.self =
-    c.errors-1.given.1 (sym (c.clear.ensures.told.same ∙ (c.run-done.ensures.told.same ∙ c.new-progress.ensures.lent))) in
-    rw here (c.clear.ensures.told.told.room (c.run-done.ensures.told.told.room (rw c.new-progress.ensures.sink c.requires.errors)))
+    c.errors-1.given.1 (sym (c.clear.ensures.reported.same ∙ (c.run-done.ensures.written.same ∙ c.new-progress.ensures.lent))) in
+    rw here (c.clear.ensures.reported.reported.room (c.run-done.ensures.written.reported.room (rw c.new-progress.ensures.sink c.requires.errors)))

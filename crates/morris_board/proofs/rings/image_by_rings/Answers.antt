@@ -1,5 +1,5 @@
 use Rattle.std.proofs.Common.{ℕ, ◌/◌, ◌%◌, ◌∙◌, ap}
-use Rattle.morris_board.proofs.RingImages.{ring_image, rings, image-kept, image-exchanged}
+use Rattle.morris_board.proofs.RingImages.{ring_image, rings, image-buffered, image-exchanged}
 use Rattle.morris_board.proofs.rings.image_by_rings.Goals as goal
 use Rattle.morris_board.proofs.rings.image_by_rings.Goals.{then-symmetry-lt8, else-symmetry-lt8}
 
@@ -10,7 +10,7 @@ returns c =
       | then-symmetry-lt8 w ↦
           ap (λ two. rings two.0 (image (c.mask-mask.result / 256 % 256)) two.1) w.first-is
           ∙ ap (λ m. rings (image (m % 256)) (image (m / 256 % 256)) (image (m / 65536))) c.mask-mask.ensures
-          ∙ image-kept c.args.symmetry c.args.set c.requires.within w.if-symmetry-lt8.true
+          ∙ image-buffered c.args.symmetry c.args.set c.requires.within w.if-symmetry-lt8.true
       | else-symmetry-lt8 w ↦
           ap (λ two. rings two.0 (image (c.mask-mask.result / 256 % 256)) two.1) w.first-is
           ∙ ap (λ m. rings (image (m / 65536)) (image (m / 256 % 256)) (image (m % 256))) c.mask-mask.ensures

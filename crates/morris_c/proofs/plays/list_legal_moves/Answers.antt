@@ -10,15 +10,15 @@ use Rattle.morris_c.proofs.plays.list_legal_moves.Goals as goal
 pub returns-in-Err : goal.returns-in-Err
 returns-in-Err g c =
     let fits : SFits w32 c.mask_status.result = search rules in
-    let kept : to_z w32 (of_z w32 c.mask_status.result) ≡ pos (mask_status c.in-Err.fault) = to_z-of_z w32 c.mask_status.result fits ∙ c.mask_status.ensures in
+    let unchanged : to_z w32 (of_z w32 c.mask_status.result) ≡ pos (mask_status c.in-Err.fault) = to_z-of_z w32 c.mask_status.result fits ∙ c.mask_status.ensures in
     record {
       refused = λ fault r. (
-        kept ∙ ap (λ f. pos (mask_status f)) (one_fault g.B.Geometry.shape (sides c.args.own c.args.other) c.in-Err.fault fault c.in-Err.ensures.refused r),
+        unchanged ∙ ap (λ f. pos (mask_status f)) (one_fault g.B.Geometry.shape (sides c.args.own c.args.other) c.in-Err.fault fault c.in-Err.ensures.refused r),
         refl,
       );
       room = λ position less. absurd (no_fault g.B.Geometry.shape (sides c.args.own c.args.other) c.in-Err.fault position c.in-Err.ensures.refused);
       listed = λ position enough. absurd (no_fault g.B.Geometry.shape (sides c.args.own c.args.other) c.in-Err.fault position c.in-Err.ensures.refused);
-      counted = λ done. absurd (not_done _ (mask_some c.in-Err.fault) _ kept done);
+      counted = λ done. absurd (not_done _ (mask_some c.in-Err.fault) _ unchanged done);
       uncounted = λ other. refl;
     }
 

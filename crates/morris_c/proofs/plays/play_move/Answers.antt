@@ -13,12 +13,12 @@ use Rattle.morris_c.proofs.plays.play_move.Goals as goal
 pub returns-in-Err : goal.returns-in-Err
 returns-in-Err g c =
     let fits : SFits w32 c.mask_status.result = search rules in
-    let kept : to_z w32 (of_z w32 c.mask_status.result) ≡ pos (mask_status c.in-Err.fault) = to_z-of_z w32 c.mask_status.result fits ∙ c.mask_status.ensures in
+    let unchanged : to_z w32 (of_z w32 c.mask_status.result) ≡ pos (mask_status c.in-Err.fault) = to_z-of_z w32 c.mask_status.result fits ∙ c.mask_status.ensures in
     record {
-      refused = λ fault r. kept ∙ ap (λ f. pos (mask_status f)) (one_fault g.B.Geometry.shape (sides c.args.own c.args.other) c.in-Err.fault fault c.in-Err.ensures.refused r);
+      refused = λ fault r. unchanged ∙ ap (λ f. pos (mask_status f)) (one_fault g.B.Geometry.shape (sides c.args.own c.args.other) c.in-Err.fault fault c.in-Err.ensures.refused r);
       illegal = λ position wrong. absurd (no_fault g.B.Geometry.shape (sides c.args.own c.args.other) c.in-Err.fault position c.in-Err.ensures.refused);
       played = λ position legal. absurd (no_fault g.B.Geometry.shape (sides c.args.own c.args.other) c.in-Err.fault position c.in-Err.ensures.refused);
-      kept = λ other. refl;
+      unchanged = λ other. refl;
     }
 
 pub returns-then-not-is_legal : goal.returns-then-not-is_legal
@@ -31,7 +31,7 @@ returns-then-not-is_legal g c =
       played = λ position legal.
           let listed : Contains (moves_of g.B.Geometry.shape c.in-Ok.position) c.move_named-m.result = subst (λ m. Contains (moves_of g.B.Geometry.shape c.in-Ok.position) m) (sym c.move_named-m.ensures) legal in
           absurd (false≢true (sym c.if-not-is_legal.true ∙ c.is_legal.ensures.listed.1 listed));
-      kept = λ other. refl;
+      unchanged = λ other. refl;
     })
 
 pub play-next-requires : goal.play-next-requires
@@ -47,5 +47,5 @@ returns g c =
       refused = λ fault r. absurd (no_fault g.B.Geometry.shape c.in-Ok.position fault c.in-Ok.ensures.lawful r);
       illegal = λ position wrong. absurd (wrong (subst (λ m. Contains (moves_of g.B.Geometry.shape c.in-Ok.position) m) c.move_named-m.ensures (c.is_legal.ensures.listed.0 c.if-not-is_legal.false)));
       played = λ position legal. (refl, there);
-      kept = λ other. absurd (other refl);
+      unchanged = λ other. absurd (other refl);
     })

@@ -1,7 +1,7 @@
 use Rattle.std.proofs.Common.{◌≡◌, ◌<◌, ◌+◌, List, [], ◌∷◌, ◌++◌, length, take, set, refl, sym, ap, ap₂, ◌∙◌, arith, append-nil, append_assoc, length-append, length-set, rules}
 use Rattle.std.specs.Prelude.{map}
 use Rattle.std.proofs.lemmas.List.{take_more_set, map-append}
-use Rattle.morris_moves.specs.declared.step.Move.{Move}
+use Rattle.morris_moves.specs.declared.game_move.Move.{Move}
 use Rattle.morris_moves.specs.Rules.{moves_of}
 use Rattle.morris_c.specs.Plays.{bare_record}
 use Rattle.morris_c.proofs.plays.write_moves.Goals as goal

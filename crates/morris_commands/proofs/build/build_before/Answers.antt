@@ -9,11 +9,11 @@ use Rattle.morris_commands.specs.Build.{HasExactBut}
 use Rattle.morris_commands.proofs.BeforeLaws.{AreBuiltBut, built-itself, built-last, built-more, built-ready, every-itself, every-more, told_apart, unbuilt-one}
 use Rattle.morris_commands.proofs.build.build_before.Goals as goal
 
-pub returns-in_err-stock-clause-told : goal.returns-in_err-stock-clause-told
-returns-in_err-stock-clause-told g c = g.met.T.Watch.stays c.args.teller.now
+pub returns-in_err-tables-clause-reported : goal.returns-in_err-tables-clause-reported
+returns-in_err-tables-clause-reported g c = g.met.T.Watch.stays c.args.progress.now
 
-pub returns-in_err-stock-clause-refused : goal.returns-in_err-stock-clause-refused
-returns-in_err-stock-clause-refused g c =
+pub returns-in_err-tables-clause-refused : goal.returns-in_err-tables-clause-refused
+returns-in_err-tables-clause-refused g c =
     let failed = err_from_is_err_and c.from_residual.result c.from_residual.ensures.1 in
     rw (failed.1, failed.2) tt
 
@@ -22,28 +22,28 @@ loop-below-init g c = record {
   split = cc;
   built = λ d m. absurd (omega (arith, m.1));
   every = λ all d m. absurd (omega (arith, m.1));
-  told = g.met.T.Watch.stays c.args.teller.now;
+  reported = g.met.T.Watch.stays c.args.progress.now;
 }
 
 pub build_onto-requires-clause-ready : goal.build_onto-requires-clause-ready
 build_onto-requires-clause-ready g c = λ κs within.
     built-ready g.B.Geometry.shape c.args.layout c.args.pair c.loop-below.yielded c.next.new.self c.in-Some.below
     (ap (λ rest. c.loop-below.yielded ++ rest) (sym c.in-Some.ensures.steps) ∙ c.loop-below.invariant.split)
-    c.loop-below.stock c.spare.new.stock c.below-below-items.ensures.needs_first c.loop-below.invariant.built c.spare.ensures.near
+    c.loop-below.tables c.drop_unneeded.new.tables c.below-below-items.ensures.needs_first c.loop-below.invariant.built c.drop_unneeded.ensures.near
 
-pub returns-in_err-build_onto-clause-told : goal.returns-in_err-build_onto-clause-told
-returns-in_err-build_onto-clause-told g c = g.met.T.Watch.joins _ _ _ c.loop-below.invariant.told c.build_onto.ensures.told
+pub returns-in_err-build_onto-clause-reported : goal.returns-in_err-build_onto-clause-reported
+returns-in_err-build_onto-clause-reported g c = g.met.T.Watch.joins _ _ _ c.loop-below.invariant.reported c.build_onto.ensures.reported
 
 pub returns-in_err-build_onto-clause-refused : goal.returns-in_err-build_onto-clause-refused
 returns-in_err-build_onto-clause-refused g c =
     let failed = err_from_is_err_and c.from_residual-in_err-build_onto.result c.from_residual-in_err-build_onto.ensures.1 in
     rw (failed.1, failed.2)
     (unbuilt-one g.B.Geometry.shape c.args.layout c.args.pair c.loop-below.yielded c.next.new.self c.in-Some.below
-    (ap (λ rest. c.loop-below.yielded ++ rest) (sym c.in-Some.ensures.steps) ∙ c.loop-below.invariant.split) c.args.crew.team.blocks
+    (ap (λ rest. c.loop-below.yielded ++ rest) (sym c.in-Some.ensures.steps) ∙ c.loop-below.invariant.split) c.args.context.parallelism.blocks
     (told_apart _ _ (sym c.ne.ensures ∙ c.if-ne.true)) _ c.in_err-build_onto.ensures.refused)
 
-pub returns-clause-told : goal.returns-clause-told
-returns-clause-told g c = c.loop-below.invariant.told
+pub returns-clause-reported : goal.returns-clause-reported
+returns-clause-reported g c = c.loop-below.invariant.reported
 
 pub loop-below-preserved : goal.loop-below-preserved
 loop-below-preserved g c =
@@ -55,11 +55,11 @@ loop-below-preserved g c =
       split = append_assoc c.loop-below.yielded (c.in-Some.below ∷ []) c.next.new.self ∙ split;
       built =
           built-itself g.B.Geometry.shape c.args.layout c.args.pair c.loop-below.yielded c.next.new.self c.in-Some.below split
-          c.loop-below.stock c.spare.new.stock c.loop-below.invariant.built c.spare.ensures.near itself;
+          c.loop-below.tables c.drop_unneeded.new.tables c.loop-below.invariant.built c.drop_unneeded.ensures.near itself;
       every = λ all.
-          every-itself g.B.Geometry.shape c.args.layout c.loop-below.stock c.spare.new.stock c.args.pair c.loop-below.yielded c.in-Some.below
-          (c.loop-below.invariant.every all) (c.spare.ensures.all all) itself;
-      told = c.loop-below.invariant.told;
+          every-itself g.B.Geometry.shape c.args.layout c.loop-below.tables c.drop_unneeded.new.tables c.args.pair c.loop-below.yielded c.in-Some.below
+          (c.loop-below.invariant.every all) (c.drop_unneeded.ensures.all all) itself;
+      reported = c.loop-below.invariant.reported;
     }
 
 pub loop-below-preserved-in-Continue-branch-2 : goal.loop-below-preserved-in-Continue-branch-2
@@ -70,12 +70,12 @@ loop-below-preserved-in-Continue-branch-2 g c =
       split = append_assoc c.loop-below.yielded (c.in-Some.below ∷ []) c.next.new.self ∙ split;
       built =
           built-more g.B.Geometry.shape c.args.layout c.args.pair c.loop-below.yielded c.next.new.self c.in-Some.below split
-          c.loop-below.stock c.spare.new.stock c.build_onto.new.stock c.loop-below.invariant.built c.spare.ensures.near
+          c.loop-below.tables c.drop_unneeded.new.tables c.build_onto.new.tables c.loop-below.invariant.built c.drop_unneeded.ensures.near
           c.in_ok-build_onto.ensures.exact c.in_ok-build_onto.ensures.within c.in_ok-build_onto.ensures.others;
       every = λ all.
-          every-more g.B.Geometry.shape c.args.layout c.loop-below.stock c.spare.new.stock c.build_onto.new.stock c.args.pair c.loop-below.yielded
-          c.in-Some.below (c.loop-below.invariant.every all) (c.spare.ensures.all all) c.in_ok-build_onto.ensures.exact c.in_ok-build_onto.ensures.others;
-      told = g.met.T.Watch.joins _ _ _ c.loop-below.invariant.told c.build_onto.ensures.told;
+          every-more g.B.Geometry.shape c.args.layout c.loop-below.tables c.drop_unneeded.new.tables c.build_onto.new.tables c.args.pair c.loop-below.yielded
+          c.in-Some.below (c.loop-below.invariant.every all) (c.drop_unneeded.ensures.all all) c.in_ok-build_onto.ensures.exact c.in_ok-build_onto.ensures.others;
+      reported = g.met.T.Watch.joins _ _ _ c.loop-below.invariant.reported c.build_onto.ensures.reported;
     }
 
 pub returns-clause-ready : goal.returns-clause-ready
@@ -83,8 +83,8 @@ returns-clause-ready g c =
     let all : c.loop-below.yielded ≡ below_of c.args.pair =
     sym (append-nil c.loop-below.yielded) ∙ (ap (λ rest. c.loop-below.yielded ++ rest) (sym c.in-None.ensures.steps.0) ∙ c.loop-below.invariant.split) in
     let last = c.below-below-items.ensures.last in
-    built-last g.B.Geometry.shape c.args.layout c.loop-below.stock c.args.pair last.0 c.below-below-items.ensures.needs_first last.1
-    (subst (AreBuiltBut g.B.Geometry.shape c.args.layout c.loop-below.stock c.args.pair) all c.loop-below.invariant.built)
+    built-last g.B.Geometry.shape c.args.layout c.loop-below.tables c.args.pair last.0 c.below-below-items.ensures.needs_first last.1
+    (subst (AreBuiltBut g.B.Geometry.shape c.args.layout c.loop-below.tables c.args.pair) all c.loop-below.invariant.built)
 
 pub returns-clause-within : goal.returns-clause-within
 returns-clause-within g c = λ deep.
@@ -96,4 +96,4 @@ pub returns-clause-every : goal.returns-clause-every
 returns-clause-every g c = λ every.
     let all : c.loop-below.yielded ≡ below_of c.args.pair =
     sym (append-nil c.loop-below.yielded) ∙ (ap (λ rest. c.loop-below.yielded ++ rest) (sym c.in-None.ensures.steps.0) ∙ c.loop-below.invariant.split) in
-    subst (HasExactBut g.B.Geometry.shape c.args.layout c.loop-below.stock c.args.pair) all (c.loop-below.invariant.every every)
+    subst (HasExactBut g.B.Geometry.shape c.args.layout c.loop-below.tables c.args.pair) all (c.loop-below.invariant.every every)

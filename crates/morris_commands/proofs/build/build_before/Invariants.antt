@@ -10,7 +10,7 @@ use Rattle.morris_commands.proofs.build.build_before.Given as goal
 abbrev pub invariant-loop-below : goal.invariant-loop-below
 invariant-loop-below g l = record {
   split : l.yielded ++ l.below-iterator ≡ below_of l.fn.pair;
-  built : AreBuiltBut g.B.Geometry.shape l.fn.layout l.stock l.fn.pair l.yielded;
-  every : l.fn.all ≡ true → HasExactBut g.B.Geometry.shape l.fn.layout l.stock l.fn.pair l.yielded;
-  told : g.T.Watch.becomes l.initial.teller l.teller;
+  built : AreBuiltBut g.B.Geometry.shape l.fn.layout l.tables l.fn.pair l.yielded;
+  every : l.fn.all ≡ true → HasExactBut g.B.Geometry.shape l.fn.layout l.tables l.fn.pair l.yielded;
+  reported : g.T.Watch.becomes l.initial.progress l.progress;
 }

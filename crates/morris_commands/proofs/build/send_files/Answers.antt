@@ -8,11 +8,11 @@ use Rattle.morris_commands.proofs.build.send_files.Goals as goal
 
 pub write_below-requires-clause-there : goal.write_below-requires-clause-there
 write_below-requires-clause-there g c =
-    has_tables g.B.Geometry.shape c.args.layout c.args.stock.now (below_of c.args.pair)
-    (subst (λ b. HasExact g.B.Geometry.shape c.args.layout c.args.stock.now (pairs_written b c.args.pair)) c.if-all.true c.requires.exact)
+    has_tables g.B.Geometry.shape c.args.layout c.args.tables.now (below_of c.args.pair)
+    (subst (λ b. HasExact g.B.Geometry.shape c.args.layout c.args.tables.now (pairs_written b c.args.pair)) c.if-all.true c.requires.exact)
 
 pub write_one-requires-clause-there : goal.write_one-requires-clause-there
 write_one-requires-clause-there g c =
-    has_tables g.B.Geometry.shape c.args.layout c.args.stock.now (c.args.pair ∷ [])
-    (subst (λ b. HasExact g.B.Geometry.shape c.args.layout c.args.stock.now (pairs_written b c.args.pair)) c.if-all.false c.requires.exact)
+    has_tables g.B.Geometry.shape c.args.layout c.args.tables.now (c.args.pair ∷ [])
+    (subst (λ b. HasExact g.B.Geometry.shape c.args.layout c.args.tables.now (pairs_written b c.args.pair)) c.if-all.false c.requires.exact)
     c.args.pair (Contains-head c.args.pair [])

@@ -11,7 +11,7 @@ use Rattle.morris_commands.proofs.build.write_below.Goals as goal
 pub returns-in_err-sent-clause-sent : goal.returns-in_err-sent-clause-sent
 returns-in_err-sent-clause-sent g c =
     let failed = err_from_is_err_and c.from_residual.result c.from_residual.ensures.1 in
-    let file = file_on g.B.Geometry.shape c.args.stock.now in
+    let file = file_on g.B.Geometry.shape c.args.tables.now in
     let split : c.loop-below.yielded ++ (c.in-Some.below ∷ c.next.new.self) ≡ below_of c.args.pair =
     ap (λ rest. c.loop-below.yielded ++ rest) (sym c.in-Some.ensures.steps) ∙ c.loop-below.invariant.split in
     rw (failed.1, failed.2)
@@ -22,7 +22,7 @@ returns-in_err-sent-clause-sent g c =
 
 pub loop-below-preserved : goal.loop-below-preserved
 loop-below-preserved g c =
-    let file = file_on g.B.Geometry.shape c.args.stock.now in
+    let file = file_on g.B.Geometry.shape c.args.tables.now in
     let old = g.O.Sink.contents c.args.output.now in
     let new = g.O.Sink.contents c.write_one.new.output in
     record {
@@ -43,4 +43,4 @@ returns-clause-sent g c =
     sym (append-nil c.loop-below.yielded) ∙ (ap (λ rest. c.loop-below.yielded ++ rest) (sym c.in-None.ensures.steps.0) ∙ c.loop-below.invariant.split) in
     subst
     (λ pairs. AllSent (g.O.Sink.contents c.args.output.now) (g.O.Sink.contents c.loop-below.output) 0 c.loop-below.sent
-    (flat_map (file_on g.B.Geometry.shape c.args.stock.now) pairs)) all c.loop-below.invariant.sent
+    (flat_map (file_on g.B.Geometry.shape c.args.tables.now) pairs)) all c.loop-below.invariant.sent

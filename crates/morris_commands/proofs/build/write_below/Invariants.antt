@@ -8,7 +8,7 @@ use Rattle.morris_commands.proofs.build.write_below.Given as goal
 -- the files of the pairs so far have gone out, and the iterator has the others
 abbrev pub invariant-loop-below : goal.invariant-loop-below
 invariant-loop-below g l = record {
-  sent : AllSent (g.O.Sink.contents l.initial.output) (g.O.Sink.contents l.output) 0 l.sent (flat_map (file_on g.B.Geometry.shape l.fn.stock) l.yielded);
+  sent : AllSent (g.O.Sink.contents l.initial.output) (g.O.Sink.contents l.output) 0 l.sent (flat_map (file_on g.B.Geometry.shape l.fn.tables) l.yielded);
   split : l.yielded ++ l.below-iterator ≡ below_of l.fn.pair;
   few : l.sent ≤ 2 ^ 42 * length l.yielded;
   uncounted : g.O.Sink.failures l.output ≡ g.O.Sink.failures l.initial.output;

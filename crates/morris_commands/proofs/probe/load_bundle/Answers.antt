@@ -13,7 +13,7 @@ loop-place-init g c = record {
   leads = λ ending goes. goes;
   few = omega arith;
   unfailed = refl;
-  told = g.met.T.Watch.stays c.args.teller.now;
+  reported = g.met.T.Watch.stays c.args.progress.now;
 }
 
 pub read_next-requires : goal.read_next-requires
@@ -35,7 +35,7 @@ returns-in_err-raw g c =
                 (record { read = c.in_err-raw.ensures.outcome; counted = c.in_err-raw.ensures.counted; room = c.in_err-raw.ensures.memory; place = c.in_err-raw.ensures.place })),
           ));
       unwritten = rw (failed.1, failed.2) (read_unwritten c.in_err-raw.field-0.0);
-      told = l.invariant.told;
+      reported = l.invariant.reported;
     }
 
 pub returns-in_default : goal.returns-in_default
@@ -52,7 +52,7 @@ returns-in_default g c =
                 (record { read = rw c.in_default.is at c.in_ok-raw.ensures.outcome; counted = c.in_ok-raw.ensures.counted; room = no_room_wanting _; place = c.in_ok-raw.ensures.place })),
           );
       unwritten = tt;
-      told = l.invariant.told;
+      reported = l.invariant.reported;
     }
 
 pub returns-then-place-eq-MOST_FILES : goal.returns-then-place-eq-MOST_FILES
@@ -72,7 +72,7 @@ returns-then-place-eq-MOST_FILES g c =
                 (record { read = rw c.in-Some.is at c.in_ok-raw.ensures.outcome; counted = c.in_ok-raw.ensures.counted; room = no_room_wanting _; place = c.in_ok-raw.ensures.place }))),
           );
       unwritten = refl;
-      told = l.invariant.told;
+      reported = l.invariant.reported;
     }
 
 pub returns-in_err-join_shelf : goal.returns-in_err-join_shelf
@@ -93,7 +93,7 @@ returns-in_err-join_shelf g c =
                 c.in_err-join_shelf.field-0.0 c.in_err-join_shelf.ensures.refused,
           ));
       unwritten = rw (failed.1, failed.2) c.in_err-join_shelf.ensures.unwritten;
-      told = g.met.T.Watch.joins c.args.teller.now l.teller c.join_shelf.new.teller l.invariant.told c.join_shelf.ensures.told;
+      reported = g.met.T.Watch.joins c.args.progress.now l.progress c.join_shelf.new.progress l.invariant.reported c.join_shelf.ensures.reported;
     }
 
 pub loop-place-preserved : goal.loop-place-preserved
@@ -108,5 +108,5 @@ loop-place-preserved g c =
           c.in_ok-join_shelf.ensures.joined;
       few = omega (arith, l.invariant.few, c.if-place-eq-MOST_FILES.false);
       unfailed = c.in_ok-raw.ensures.counted ∙ l.invariant.unfailed;
-      told = g.met.T.Watch.joins c.args.teller.now l.teller c.join_shelf.new.teller l.invariant.told c.join_shelf.ensures.told;
+      reported = g.met.T.Watch.joins c.args.progress.now l.progress c.join_shelf.new.progress l.invariant.reported c.join_shelf.ensures.reported;
     }

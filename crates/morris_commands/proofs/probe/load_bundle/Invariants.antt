@@ -13,5 +13,5 @@ invariant-loop-place g l = record {
       (64 - l.place) l.shelf (input_of (g.I.Source.remaining l.input) (g.I.Source.failures l.input));
   few : l.place ≤ 64;
   unfailed : g.I.Source.failures l.input ≡ g.I.Source.failures l.initial.input;
-  told : g.T.Watch.becomes l.initial.teller l.teller;
+  reported : g.T.Watch.becomes l.initial.progress l.progress;
 }

@@ -3,14 +3,14 @@ use Rattle.std.proofs.lemmas.Result.{err_from_is_err_and}
 use Rattle.morris_jobs.proofs.FaultLaws.{counted_refused}
 use Rattle.morris_commands.proofs.probe.probe_on.Goals as goal
 
-pub returns-in_err-position-clause-told : goal.returns-in_err-position-clause-told
-returns-in_err-position-clause-told g c = g.met.T.Watch.stays c.args.teller.now
+pub returns-in_err-position-clause-reported : goal.returns-in_err-position-clause-reported
+returns-in_err-position-clause-reported g c = g.met.T.Watch.stays c.args.progress.now
 
-pub returns-in_err-shelf-clause-told : goal.returns-in_err-shelf-clause-told
-returns-in_err-shelf-clause-told g c = c.load_bundle.ensures.told
+pub returns-in_err-shelf-clause-reported : goal.returns-in_err-shelf-clause-reported
+returns-in_err-shelf-clause-reported g c = c.load_bundle.ensures.reported
 
-pub returns-clause-told : goal.returns-clause-told
-returns-clause-told g c = c.load_bundle.ensures.told
+pub returns-clause-reported : goal.returns-clause-reported
+returns-clause-reported g c = c.load_bundle.ensures.reported
 
 pub returns-clause-counted : goal.returns-clause-counted
 returns-clause-counted g c = c.show_report.ensures.counted

@@ -3,7 +3,7 @@ use Rattle.std.proofs.Common.{Err, ap, subst, ◌∙◌, inl}
 use Rattle.std.specs.Io.KnownBytes.{Keeps}
 use Rattle.std.proofs.KnownBytes.{Keeps-refl}
 use Rattle.std.proofs.lemmas.Result.{err_from_is_err_and}
-use Rattle.morris_jobs.specs.Orders.{IsUnbuiltAt}
+use Rattle.morris_jobs.specs.Building.{IsUnbuiltAt}
 use Rattle.morris_jobs.proofs.FaultLaws.{counted_refused, unwritten}
 use Rattle.morris_jobs.proofs.OrderLaws.{answers_read, unread_unwritten}
 use Rattle.morris_commands.specs.Build.{IsUnbuiltBefore}
@@ -70,16 +70,16 @@ returns-in_err-sweep_onto-clause-counted g c =
 pub returns-clause-counted : goal.returns-clause-counted
 returns-clause-counted g c = c.print_form.ensures.counted
 
-pub returns-in_err-pair-clause-told : goal.returns-in_err-pair-clause-told
-returns-in_err-pair-clause-told g c = g.met.T.Watch.stays c.args.teller.now
+pub returns-in_err-pair-clause-reported : goal.returns-in_err-pair-clause-reported
+returns-in_err-pair-clause-reported g c = g.met.T.Watch.stays c.args.progress.now
 
-pub returns-in_err-shelf-clause-told : goal.returns-in_err-shelf-clause-told
-returns-in_err-shelf-clause-told g c = g.met.T.Watch.joins _ _ _ c.announce.ensures.told c.sweep_before.ensures.told
+pub returns-in_err-shelf-clause-reported : goal.returns-in_err-shelf-clause-reported
+returns-in_err-shelf-clause-reported g c = g.met.T.Watch.joins _ _ _ c.start.ensures.reported c.sweep_before.ensures.reported
 
-pub returns-in_err-sweep_onto-clause-told : goal.returns-in_err-sweep_onto-clause-told
-returns-in_err-sweep_onto-clause-told g c =
-    g.met.T.Watch.joins _ _ _ (g.met.T.Watch.joins _ _ _ c.announce.ensures.told c.sweep_before.ensures.told) c.sweep_onto.ensures.told
+pub returns-in_err-sweep_onto-clause-reported : goal.returns-in_err-sweep_onto-clause-reported
+returns-in_err-sweep_onto-clause-reported g c =
+    g.met.T.Watch.joins _ _ _ (g.met.T.Watch.joins _ _ _ c.start.ensures.reported c.sweep_before.ensures.reported) c.sweep_onto.ensures.reported
 
-pub returns-clause-told : goal.returns-clause-told
-returns-clause-told g c =
-    g.met.T.Watch.joins _ _ _ (g.met.T.Watch.joins _ _ _ c.announce.ensures.told c.sweep_before.ensures.told) c.sweep_onto.ensures.told
+pub returns-clause-reported : goal.returns-clause-reported
+returns-clause-reported g c =
+    g.met.T.Watch.joins _ _ _ (g.met.T.Watch.joins _ _ _ c.start.ensures.reported c.sweep_before.ensures.reported) c.sweep_onto.ensures.reported

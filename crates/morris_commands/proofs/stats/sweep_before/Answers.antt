@@ -9,8 +9,8 @@ use Rattle.morris_pairs.specs.declared.layout.Layout.TheVariants.{Full}
 use Rattle.morris_commands.proofs.BeforeLaws.{AreBuiltBut, built-itself, built-last, built-more, built-ready, told_apart, unbuilt-one}
 use Rattle.morris_commands.proofs.stats.sweep_before.Goals as goal
 
-pub returns-in_err-shelf-clause-told : goal.returns-in_err-shelf-clause-told
-returns-in_err-shelf-clause-told g c = g.met.T.Watch.stays c.args.teller.now
+pub returns-in_err-shelf-clause-reported : goal.returns-in_err-shelf-clause-reported
+returns-in_err-shelf-clause-reported g c = g.met.T.Watch.stays c.args.progress.now
 
 pub returns-in_err-shelf-clause-refused : goal.returns-in_err-shelf-clause-refused
 returns-in_err-shelf-clause-refused g c =
@@ -21,7 +21,7 @@ pub loop-below-init : goal.loop-below-init
 loop-below-init g c = record {
   split = cc;
   built = λ d m. absurd (omega (arith, m.1));
-  told = g.met.T.Watch.stays c.args.teller.now;
+  reported = g.met.T.Watch.stays c.args.progress.now;
 }
 
 pub sweep_onto-requires-after_bounds : goal.sweep_onto-requires-after_bounds
@@ -30,8 +30,8 @@ sweep_onto-requires-after_bounds g c = λ κs within.
     (ap (λ rest. c.loop-below.yielded ++ rest) (sym c.in-Some.ensures.steps) ∙ c.loop-below.invariant.split)
     c.loop-below.shelf c.loop-below.shelf c.below-below-items.ensures.needs_first c.loop-below.invariant.built (λ d near. refl)
 
-pub returns-in_err-sweep_onto-clause-told : goal.returns-in_err-sweep_onto-clause-told
-returns-in_err-sweep_onto-clause-told g c = g.met.T.Watch.joins _ _ _ c.loop-below.invariant.told c.sweep_onto.ensures.told
+pub returns-in_err-sweep_onto-clause-reported : goal.returns-in_err-sweep_onto-clause-reported
+returns-in_err-sweep_onto-clause-reported g c = g.met.T.Watch.joins _ _ _ c.loop-below.invariant.reported c.sweep_onto.ensures.reported
 
 pub returns-in_err-sweep_onto-clause-refused : goal.returns-in_err-sweep_onto-clause-refused
 returns-in_err-sweep_onto-clause-refused g c =
@@ -41,8 +41,8 @@ returns-in_err-sweep_onto-clause-refused g c =
     (ap (λ rest. c.loop-below.yielded ++ rest) (sym c.in-Some.ensures.steps) ∙ c.loop-below.invariant.split) 0
     (told_apart _ _ (sym c.ne.ensures ∙ c.if-ne.true)) _ c.in_err-sweep_onto.ensures.refused)
 
-pub returns-clause-told : goal.returns-clause-told
-returns-clause-told g c = c.loop-below.invariant.told
+pub returns-clause-reported : goal.returns-clause-reported
+returns-clause-reported g c = c.loop-below.invariant.reported
 
 pub loop-below-preserved : goal.loop-below-preserved
 loop-below-preserved g c =
@@ -55,7 +55,7 @@ loop-below-preserved g c =
       built =
           built-itself g.B.Geometry.shape Full c.args.pair c.loop-below.yielded c.next.new.self c.in-Some.below split
           c.loop-below.shelf c.loop-below.shelf c.loop-below.invariant.built (λ d near. refl) itself;
-      told = c.loop-below.invariant.told;
+      reported = c.loop-below.invariant.reported;
     }
 
 pub loop-below-preserved-in-Continue-branch-2 : goal.loop-below-preserved-in-Continue-branch-2
@@ -68,7 +68,7 @@ loop-below-preserved-in-Continue-branch-2 g c =
           built-more g.B.Geometry.shape Full c.args.pair c.loop-below.yielded c.next.new.self c.in-Some.below split
           c.loop-below.shelf c.loop-below.shelf c.sweep_onto.new.shelf c.loop-below.invariant.built (λ d near. refl)
           c.in_ok-sweep_onto.ensures.exact c.in_ok-sweep_onto.ensures.within c.in_ok-sweep_onto.ensures.others;
-      told = g.met.T.Watch.joins _ _ _ c.loop-below.invariant.told c.sweep_onto.ensures.told;
+      reported = g.met.T.Watch.joins _ _ _ c.loop-below.invariant.reported c.sweep_onto.ensures.reported;
     }
 
 pub returns-clause-ready : goal.returns-clause-ready

@@ -10,5 +10,5 @@ abbrev pub invariant-loop-below : goal.invariant-loop-below
 invariant-loop-below g l = record {
   split : l.yielded ++ l.below-iterator ≡ below_of l.fn.pair;
   built : AreBuiltBut g.B.Geometry.shape Full l.shelf l.fn.pair l.yielded;
-  told : g.T.Watch.becomes l.initial.teller l.teller;
+  reported : g.T.Watch.becomes l.initial.progress l.progress;
 }

@@ -41,11 +41,11 @@ returns-clause-answer g c =
       ),
     )
 
-pub returns-in_err-raw-clause-told : goal.returns-in_err-raw-clause-told
-returns-in_err-raw-clause-told g c = g.met.T.Watch.stays c.args.teller.now
+pub returns-in_err-raw-clause-reported : goal.returns-in_err-raw-clause-reported
+returns-in_err-raw-clause-reported g c = g.met.T.Watch.stays c.args.progress.now
 
-pub returns-in_err-exact-clause-told : goal.returns-in_err-exact-clause-told
-returns-in_err-exact-clause-told g c = c.believe.ensures.told
+pub returns-in_err-exact-clause-reported : goal.returns-in_err-exact-clause-reported
+returns-in_err-exact-clause-reported g c = c.believe.ensures.reported
 
-pub returns-clause-told : goal.returns-clause-told
-returns-clause-told g c = c.believe.ensures.told
+pub returns-clause-reported : goal.returns-clause-reported
+returns-clause-reported g c = c.believe.ensures.reported

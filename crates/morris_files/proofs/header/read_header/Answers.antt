@@ -3,7 +3,7 @@ use Rattle.std.proofs.Common.{◌≡◌, take, arith}
 use Rattle.std.proofs.lemmas.List.{length-take-le}
 use Rattle.std.proofs.lemmas.Result.{err_from_is_err_and}
 use Rattle.morris_pairs.specs.declared.file_faults.ReadFault.TheVariants.{Read}
-use Rattle.morris_files.specs.declared.kept.KeptFault.TheVariants as kept
+use Rattle.morris_files.specs.declared.stored.StoredFault.TheVariants as stored
 use Rattle.morris_files.specs.Names.{name_of}
 use Rattle.morris_files.proofs.HeaderLaws.{file_there, header_read}
 use Rattle.morris_files.proofs.KeptLaws.{unopened_header, unopened_unread}
@@ -40,5 +40,5 @@ returns-in_err-reader-clause-unread g c =
     let failed = err_from_is_err_and c.from_residual.result c.from_residual.ensures.1 in
     rw (failed.1, failed.2)
     (λ e.
-    let is : c.in_err-reader.field-0.0 ≡ kept.Refused Read = cc in
+    let is : c.in_err-reader.field-0.0 ≡ stored.Refused Read = cc in
     absurd (unopened_unread c.in_err-reader.field-0.0 c.in_err-reader.ensures.refused is))

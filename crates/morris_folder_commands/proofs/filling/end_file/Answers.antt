@@ -6,8 +6,8 @@ use Rattle.morris_folder_commands.proofs.CauseLaws.{unwritten_caused}
 use Rattle.morris_folder_commands.proofs.LineLaws.{filed_few}
 use Rattle.morris_folder_commands.proofs.filling.end_file.Goals as goal
 
-pub returns-in-Ok-clause-kept : goal.returns-in-Ok-clause-kept
-returns-in-Ok-clause-kept g c = λ board files start names begun whole.
+pub returns-in-Ok-clause-unchanged : goal.returns-in-Ok-clause-unchanged
+returns-in-Ok-clause-unchanged g c = λ board files start names begun whole.
     let w = c.in-Ok.ensures in
     (w.answer board files start names begun whole, record { pair = w.pair; entries = w.entries; bytes = w.bytes; digest = w.digest })
 
@@ -18,14 +18,14 @@ returns-in-Ok-clause-short g c =
     filed_few w.pair w.entries w.bytes w.digest long
 
 -- A file that isn't ended has a cause.
-pub returns-in-Err-clause-kept : goal.returns-in-Err-clause-kept
-returns-in-Err-clause-kept g c = λ board files start names begun whole.
-    (c.in-Err.fault, c.unwritten.ensures, c.in-Err.ensures.answer board files start names begun whole)
+pub returns-in-Err-clause-unchanged : goal.returns-in-Err-clause-unchanged
+returns-in-Err-clause-unchanged g c = λ board files start names begun whole.
+    (c.in-Err.fault, c.write_fault.ensures, c.in-Err.ensures.answer board files start names begun whole)
 
 pub returns-in-Err-clause-caused : goal.returns-in-Err-clause-caused
 returns-in-Err-clause-caused g c =
     let old = g.F.Folder.failures c.args.folder.now in
     let new = g.F.Folder.failures c.end_table_file.new.folder in
-    rw c.unwritten.ensures
+    rw c.write_fault.ensures
     (unwritten_caused g.F.Reader.Source.failures g.F.Writer.Sink.failures (Some false) ⊥ old new c.args.table.now.pair c.in-Err.fault c.in-Err.ensures.counted
     c.in-Err.ensures.unwritten)

@@ -9,7 +9,7 @@ returns-in-Ok-clause-answer g c =
     let said = c.verify_found.ensures.answer in
     inr (
       said.0,
-      kept_on (g.F.Folder.files c.args.folder.now) (g.F.Folder.files c.find.new.self) said.0 c.find.ensures.kept said.1,
+      kept_on (g.F.Folder.files c.args.folder.now) (g.F.Folder.files c.find.new.self) said.0 c.find.ensures.unchanged said.1,
       said.2,
     )
 

@@ -28,10 +28,10 @@ returns-clause-taken g c =
 
 -- ---- what was told as the pair began, by its verification, and at its end
 
-pub returns-in-Err-clause-told : goal.returns-in-Err-clause-told
-returns-in-Err-clause-told g c = g.met.T.Watch.joins _ _ _ c.begin_pair.ensures.told c.verify_over.ensures.told
+pub returns-in-Err-clause-reported : goal.returns-in-Err-clause-reported
+returns-in-Err-clause-reported g c = g.met.T.Watch.joins _ _ _ c.begin_pair.ensures.reported c.verify_over.ensures.reported
 
-pub returns-clause-told : goal.returns-clause-told
-returns-clause-told g c =
-    let verified = g.met.T.Watch.joins _ _ _ c.begin_pair.ensures.told c.verify_over.ensures.told in
-    g.met.T.Watch.joins _ _ _ verified c.end_pair.ensures.told
+pub returns-clause-reported : goal.returns-clause-reported
+returns-clause-reported g c =
+    let verified = g.met.T.Watch.joins _ _ _ c.begin_pair.ensures.reported c.verify_over.ensures.reported in
+    g.met.T.Watch.joins _ _ _ verified c.end_pair.ensures.reported

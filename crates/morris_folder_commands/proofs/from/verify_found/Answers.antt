@@ -26,14 +26,14 @@ verify_pairs-requires-clause-stops g c κs within =
 pub returns-clause-answer : goal.returns-clause-answer
 returns-clause-answer g c = (
   g.F.Folder.files c.look_ahead.new.folder,
-  c.look_ahead.ensures.kept,
-  inr (c.in_ok-stock.stock, c.in_ok-stock.ensures.none, c.verify_pairs.ensures.answer),
+  c.look_ahead.ensures.unchanged,
+  inr (c.in_ok-tables.tables, c.in_ok-tables.ensures.none, c.verify_pairs.ensures.answer),
 )
 
-pub returns-clause-kept : goal.returns-clause-kept
-returns-clause-kept g c =
+pub returns-clause-unchanged : goal.returns-clause-unchanged
+returns-clause-unchanged g c =
     kept_on (g.F.Folder.files c.args.folder.now) (g.F.Folder.files c.look_ahead.new.folder) (g.F.Folder.files c.verify_pairs.new.folder)
-    c.look_ahead.ensures.kept c.verify_pairs.ensures.kept
+    c.look_ahead.ensures.unchanged c.verify_pairs.ensures.unchanged
 
 pub returns-clause-caused : goal.returns-clause-caused
 returns-clause-caused g c =
@@ -41,12 +41,12 @@ returns-clause-caused g c =
     c.verify_pairs.ensures.caused old
     (stops g.B.Geometry.shape c.in_ok-end.end old (g.F.Folder.failures c.look_ahead.new.folder) c.in_ok-end.ensures.end)
 
-pub returns-clause-told : goal.returns-clause-told
-returns-clause-told g c = g.met.T.Watch.joins _ _ _ c.look_ahead.ensures.told c.verify_pairs.ensures.told
+pub returns-clause-reported : goal.returns-clause-reported
+returns-clause-reported g c = g.met.T.Watch.joins _ _ _ c.look_ahead.ensures.reported c.verify_pairs.ensures.reported
 
 -- there is no room for a stock, or for the name of a file
-pub returns-in_err-stock-clause-answer : goal.returns-in_err-stock-clause-answer
-returns-in_err-stock-clause-answer g c =
+pub returns-in_err-tables-clause-answer : goal.returns-in_err-tables-clause-answer
+returns-in_err-tables-clause-answer g c =
     let failed = err_from_is_err_and c.from_residual.result c.from_residual.ensures.1 in
     let files = g.F.Folder.files c.args.folder.now in
     rw (failed.1, failed.2)
@@ -56,4 +56,4 @@ pub returns-in_err-end-clause-answer : goal.returns-in_err-end-clause-answer
 returns-in_err-end-clause-answer g c =
     let failed = err_from_is_err_and c.from_residual-in_err-end.result c.from_residual-in_err-end.ensures.1 in
     rw (failed.1, failed.2, c.in_err-end.ensures.refused)
-    (g.F.Folder.files c.look_ahead.new.folder, c.look_ahead.ensures.kept, inl (refl, Keeps-refl (g.O.Sink.contents c.args.output.now)))
+    (g.F.Folder.files c.look_ahead.new.folder, c.look_ahead.ensures.unchanged, inl (refl, Keeps-refl (g.O.Sink.contents c.args.output.now)))

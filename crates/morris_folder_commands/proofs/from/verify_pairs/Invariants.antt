@@ -1,6 +1,6 @@
 use Rattle.std.proofs.Common.{◌≡◌, ℕ, ◌*◌, ◌-◌, ◌<◌, ◌≤◌, ◌^◌, drop}
 use Rattle.std.specs.List.{filter}
-use Rattle.morris_files.specs.Files.{Keeps}
+use Rattle.morris_files.specs.Files.{AreUnchanged}
 use Rattle.morris_index.specs.Pairs.{all_pairs}
 use Rattle.morris_folder_commands.specs.From.{fits}
 use Rattle.morris_folder_commands.specs.FromSteps.{IsAhead, StopsAt}
@@ -12,15 +12,15 @@ use Rattle.morris_folder_commands.proofs.from.verify_pairs.Given as goal
 -- what was told since the start makes up one telling
 abbrev pub invariant-loop-place : goal.invariant-loop-place
 invariant-loop-place g l = record {
-  leads : Leads g.B.Geometry.shape (g.F.Folder.files l.fn.folder) l.board (g.O.Sink.contents l.fn.output) l.fn.stock
-      (filter (fits g.B.Geometry.shape) (drop l.place all_pairs)) l.stock l.found l.sent (g.O.Sink.contents l.output);
+  leads : Leads g.B.Geometry.shape (g.F.Folder.files l.fn.folder) l.board (g.O.Sink.contents l.fn.output) l.fn.tables
+      (filter (fits g.B.Geometry.shape) (drop l.place all_pairs)) l.tables l.found l.sent (g.O.Sink.contents l.output);
   known : IsAhead g.F.Reader.Source.failures g.B.Geometry.shape (g.F.Folder.files l.fn.folder) l.board l.place l.ahead.answer;
   inside : l.place ≤ l.ahead.end;
   stops : (before : ℕ) → StopsAt g.B.Geometry.shape l.fn.ahead.end before (g.F.Folder.failures l.fn.folder)
       → StopsAt g.B.Geometry.shape l.ahead.end before (g.F.Folder.failures l.folder);
   room : g.F.Folder.failures l.folder < 2 ^ 64 - 1;
-  kept : Keeps (g.F.Folder.files l.fn.folder) (g.F.Folder.files l.folder);
+  unchanged : AreUnchanged (g.F.Folder.files l.fn.folder) (g.F.Folder.files l.folder);
   few : l.sent ≤ 2 ^ 10 * l.place;
   uncounted : g.O.Sink.failures l.output ≡ g.O.Sink.failures l.fn.output;
-  told : g.T.Watch.becomes l.fn.teller l.teller;
+  reported : g.T.Watch.becomes l.fn.progress l.progress;
 }

@@ -5,7 +5,7 @@ use Rattle.std.proofs.lemmas.Result.{err_from_is_err_and}
 use Rattle.morris_index.specs.Pairs.{Counts, below_of}
 use Rattle.morris_pairs.specs.Shelves.{table_on}
 use Rattle.morris_jobs.specs.Faults.{CountsWrites}
-use Rattle.morris_jobs.specs.Orders.{HasExactAt, stones}
+use Rattle.morris_jobs.specs.Building.{HasExactAt, stones}
 use Rattle.morris_jobs.proofs.NearLaws.{IsLast, last_near, most_last, near-more, near-ready}
 use Rattle.morris_folder_commands.specs.Filling.{IsThere, Rest, rest_of}
 use Rattle.morris_folder_commands.specs.Into.{place_of}
@@ -20,16 +20,16 @@ loop-below-init g c =
     record {
       split = whole;
       near = λ other m near. absurd (omega (arith, m.1));
-      there = subst (λ (o : Option Counts). IfSome o (IsThere g.B.Geometry.shape c.args.filling.now.layout c.args.stock.now)) (sym none) tt;
+      there = subst (λ (o : Option Counts). IfSome o (IsThere g.B.Geometry.shape c.args.filling.now.layout c.args.tables.now)) (sym none) tt;
       last = subst (λ (o : Option Counts). IfSome o (IsLast [])) (sym none) tt;
-      leads = begins g.B.Geometry.shape c.args.filling.now.layout c.args.filling.now.board.now c.args.filling.now.crew.team.blocks c.args.filled.now.written.items
+      leads = begins g.B.Geometry.shape c.args.filling.now.layout c.args.filling.now.board.now c.args.filling.now.context.parallelism.blocks c.args.filled.now.written.items
           c.args.filled.now.sent c.args.filled.now.waiting c.into_iter-below-iterator.result (below_of c.args.filling.now.pair)
           (place_of (g.F.Folder.files c.args.folder.now) (g.O.Sink.contents c.args.output.now)) c.requires.none c.requires.sent none whole;
       count = omega (arith, ap length c.requires.none, ap (λ (o : Option Counts). length (option_to_list o)) none, c.args.filled.now.written.ok.0);
       locked = c.requires.locked;
       unfailed = refl;
       uncounted = refl;
-      told = g.met.T.Watch.stays c.args.teller.now;
+      reported = g.met.T.Watch.stays c.args.progress.now;
     }
 
 -- ---- what is asked of the calls
@@ -41,7 +41,7 @@ build_beside-requires-clause-there g c = λ κs within.
     let split = ap (λ rest. l.yielded ++ rest) (sym c.in-Some.ensures.steps) ∙ l.invariant.split in
     let near = last_near c.args.filling.now.pair l.yielded c.next.new.self c.in-Some.below l.filled.waiting c.below-below-items.ensures.needs_first split
     l.invariant.last in
-    spares_waiting g.B.Geometry.shape c.args.filling.now.layout l.stock c.spare.new.stock c.in-Some.below l.filled.waiting near c.spare.ensures.near
+    spares_waiting g.B.Geometry.shape c.args.filling.now.layout l.tables c.drop_unneeded.new.tables c.in-Some.below l.filled.waiting near c.drop_unneeded.ensures.near
     l.invariant.there
 
 pub build_beside-requires-clause-room : goal.build_beside-requires-clause-room
@@ -53,7 +53,7 @@ pub build_beside-requires-clause-ready : goal.build_beside-requires-clause-ready
 build_beside-requires-clause-ready g c = λ κs within.
     near-ready g.B.Geometry.shape c.args.filling.now.layout c.args.filling.now.pair c.loop-below.yielded c.next.new.self c.in-Some.below c.below-below-items.ensures.needs_first
     (ap (λ rest. c.loop-below.yielded ++ rest) (sym c.in-Some.ensures.steps) ∙ c.loop-below.invariant.split)
-    c.loop-below.stock c.spare.new.stock c.loop-below.invariant.near c.spare.ensures.near
+    c.loop-below.tables c.drop_unneeded.new.tables c.loop-below.invariant.near c.drop_unneeded.ensures.near
 
 pub file_waiting-requires-clause-there : goal.file_waiting-requires-clause-there
 file_waiting-requires-clause-there g c =
@@ -86,7 +86,7 @@ file_waiting-requires-2-clause-room g c =
 
 -- of the pair, or of the file before it
 pub returns-in_err-table-clause-filled : goal.returns-in_err-table-clause-filled
-returns-in_err-table-clause-filled g c = λ kept.
+returns-in_err-table-clause-filled g c = λ unchanged.
     let failed = err_from_is_err_and c.from_residual.result c.from_residual.ensures.1 in
     let filling = c.args.filling.now in
     let l = c.loop-below in
@@ -99,11 +99,11 @@ returns-in_err-table-clause-filled g c = λ kept.
       here = place_of (g.F.Folder.files c.args.folder.now) (g.O.Sink.contents c.args.output.now);
     } in
     rw (failed.1, failed.2)
-    (inr (goes_from g.B.Geometry.shape filling.layout filling.board.now filling.crew.team.blocks {T = Unit {0}} start l.filled.written.items l.filled.sent l.filled.waiting
+    (inr (goes_from g.B.Geometry.shape filling.layout filling.board.now filling.context.parallelism.blocks {T = Unit {0}} start l.filled.written.items l.filled.sent l.filled.waiting
     l.below-iterator pairs (place_of (g.F.Folder.files l.folder) (g.O.Sink.contents l.output))
     (rest_of filling.board.now new.written.items new.sent new.waiting pairs
     (place_of (g.F.Folder.files c.build_beside.new.folder) (g.O.Sink.contents c.build_beside.new.output)))
-    (Err c.in_err-table.field-0.0) c.in-Some.ensures.steps l.invariant.leads (c.in_err-table.ensures.filled c.next.new.self) kept))
+    (Err c.in_err-table.field-0.0) c.in-Some.ensures.steps l.invariant.leads (c.in_err-table.ensures.filled c.next.new.self) unchanged))
 
 pub returns-in_err-table-clause-caused : goal.returns-in_err-table-clause-caused
 returns-in_err-table-clause-caused g c =
@@ -120,12 +120,12 @@ returns-in_err-table-clause-counted g c =
     (subst (λ (n : ℕ). CountsWrites {T = Unit {0}} n (g.O.Sink.failures c.build_beside.new.output) (Err c.in_err-table.field-0.0)) c.loop-below.invariant.uncounted
     c.in_err-table.ensures.counted)
 
-pub returns-in_err-table-clause-told : goal.returns-in_err-table-clause-told
-returns-in_err-table-clause-told g c = g.met.T.Watch.joins _ _ _ c.loop-below.invariant.told c.build_beside.ensures.told
+pub returns-in_err-table-clause-reported : goal.returns-in_err-table-clause-reported
+returns-in_err-table-clause-reported g c = g.met.T.Watch.joins _ _ _ c.loop-below.invariant.reported c.build_beside.ensures.reported
 
 -- of the pair's own file, where there is one worker
 pub returns-in_err-file_waiting-clause-filled : goal.returns-in_err-file_waiting-clause-filled
-returns-in_err-file_waiting-clause-filled g c = λ kept.
+returns-in_err-file_waiting-clause-filled g c = λ unchanged.
     let failed = err_from_is_err_and c.from_residual-in_err-file_waiting.result c.from_residual-in_err-file_waiting.ensures.1 in
     let board = g.B.Geometry.shape in
     let filling = c.args.filling.now in
@@ -140,15 +140,15 @@ returns-in_err-file_waiting-clause-filled g c = λ kept.
       digests = [];
       here = place_of (g.F.Folder.files c.args.folder.now) (g.O.Sink.contents c.args.output.now);
     } in
-    let leads = waits board filling.layout filling.board.now filling.crew.team.blocks start l.filled.written.items new.written.items l.filled.sent new.sent
+    let leads = waits board filling.layout filling.board.now filling.context.parallelism.blocks start l.filled.written.items new.written.items l.filled.sent new.sent
     l.filled.waiting new.waiting l.below-iterator pair rest (place_of (g.F.Folder.files l.folder) (g.O.Sink.contents l.output)) here c.in-Some.ensures.steps
     c.in_ok-table.ensures.none l.invariant.leads (c.in_ok-table.ensures.filled rest) in
     let more = c.file_waiting.new.filled in
     let next = place_of (g.F.Folder.files c.file_waiting.new.folder) (g.O.Sink.contents c.file_waiting.new.output) in
     rw (failed.1, failed.2)
-    (inr (goes_further board filling.layout filling.board.now filling.crew.team.blocks {T = Unit {0}} start (rest_of filling.board.now new.written.items new.sent (Some pair) rest here)
+    (inr (goes_further board filling.layout filling.board.now filling.context.parallelism.blocks {T = Unit {0}} start (rest_of filling.board.now new.written.items new.sent (Some pair) rest here)
     (rest_of filling.board.now more.written.items more.sent more.waiting rest next) (Err c.in_err-file_waiting.field-0.0) leads
-    (c.in_err-file_waiting.ensures.filled rest) kept))
+    (c.in_err-file_waiting.ensures.filled rest) unchanged))
 
 pub returns-in_err-file_waiting-clause-caused : goal.returns-in_err-file_waiting-clause-caused
 returns-in_err-file_waiting-clause-caused g c =
@@ -165,9 +165,9 @@ returns-in_err-file_waiting-clause-counted g c =
     (subst (λ (n : ℕ). CountsWrites {T = Unit {0}} n (g.O.Sink.failures c.file_waiting.new.output) (Err c.in_err-file_waiting.field-0.0))
     (c.in_ok-table.ensures.counted ∙ c.loop-below.invariant.uncounted) c.in_err-file_waiting.ensures.counted)
 
-pub returns-in_err-file_waiting-clause-told : goal.returns-in_err-file_waiting-clause-told
-returns-in_err-file_waiting-clause-told g c =
-    g.met.T.Watch.joins _ _ _ (g.met.T.Watch.joins _ _ _ c.loop-below.invariant.told c.build_beside.ensures.told) c.file_waiting.ensures.told
+pub returns-in_err-file_waiting-clause-reported : goal.returns-in_err-file_waiting-clause-reported
+returns-in_err-file_waiting-clause-reported g c =
+    g.met.T.Watch.joins _ _ _ (g.met.T.Watch.joins _ _ _ c.loop-below.invariant.reported c.build_beside.ensures.reported) c.file_waiting.ensures.reported
 
 -- ---- the next pair
 
@@ -186,7 +186,7 @@ loop-below-preserved g c =
       digests = [];
       here = place_of (g.F.Folder.files c.args.folder.now) (g.O.Sink.contents c.args.output.now);
     } in
-    let leads = waits board filling.layout filling.board.now filling.crew.team.blocks start l.filled.written.items new.written.items l.filled.sent new.sent
+    let leads = waits board filling.layout filling.board.now filling.context.parallelism.blocks start l.filled.written.items new.written.items l.filled.sent new.sent
     l.filled.waiting new.waiting l.below-iterator pair rest (place_of (g.F.Folder.files l.folder) (g.O.Sink.contents l.output)) here c.in-Some.ensures.steps
     c.in_ok-table.ensures.none l.invariant.leads (c.in_ok-table.ensures.filled rest) in
     let t = c.in_ok-table.table in
@@ -196,8 +196,8 @@ loop-below-preserved g c =
     (t, subst (λ (p : Counts). table_on c.put.new.self p ≡ Some t) b.pair c.put.ensures.this, b.pair, b.layout, b.exact) in
     record {
       split = append_assoc l.yielded (pair ∷ []) rest ∙ split;
-      near = near-more board filling.layout filling.pair l.yielded rest pair c.below-below-items.ensures.needs_first split l.stock c.spare.new.stock
-          c.put.new.self l.invariant.near c.spare.ensures.near there (λ d apart. c.put.ensures.others d (λ e. apart (e ∙ b.pair)));
+      near = near-more board filling.layout filling.pair l.yielded rest pair c.below-below-items.ensures.needs_first split l.tables c.drop_unneeded.new.tables
+          c.put.new.self l.invariant.near c.drop_unneeded.ensures.near there (λ d apart. c.put.ensures.others d (λ e. apart (e ∙ b.pair)));
       there = (there, b.within);
       last = (
         λ d m. most_last filling.pair l.yielded rest pair d split m,
@@ -208,7 +208,7 @@ loop-below-preserved g c =
       locked = c.build_beside.ensures.locked;
       unfailed = c.in_ok-table.ensures.caused ∙ l.invariant.unfailed;
       uncounted = c.in_ok-table.ensures.counted ∙ l.invariant.uncounted;
-      told = g.met.T.Watch.joins _ _ _ l.invariant.told c.build_beside.ensures.told;
+      reported = g.met.T.Watch.joins _ _ _ l.invariant.reported c.build_beside.ensures.reported;
     }
 
 -- where there is one worker, once the file is written
@@ -227,7 +227,7 @@ loop-below-preserved-in-Continue-branch-2 g c =
       digests = [];
       here = place_of (g.F.Folder.files c.args.folder.now) (g.O.Sink.contents c.args.output.now);
     } in
-    let leads = waits board filling.layout filling.board.now filling.crew.team.blocks start l.filled.written.items new.written.items l.filled.sent new.sent
+    let leads = waits board filling.layout filling.board.now filling.context.parallelism.blocks start l.filled.written.items new.written.items l.filled.sent new.sent
     l.filled.waiting new.waiting l.below-iterator pair rest (place_of (g.F.Folder.files l.folder) (g.O.Sink.contents l.output)) here c.in-Some.ensures.steps
     c.in_ok-table.ensures.none l.invariant.leads (c.in_ok-table.ensures.filled rest) in
     let t = c.in_ok-table.table in
@@ -240,11 +240,11 @@ loop-below-preserved-in-Continue-branch-2 g c =
     let none = c.in_ok-file_waiting.ensures.none in
     record {
       split = append_assoc l.yielded (pair ∷ []) rest ∙ split;
-      near = near-more board filling.layout filling.pair l.yielded rest pair c.below-below-items.ensures.needs_first split l.stock c.spare.new.stock
-          c.put.new.self l.invariant.near c.spare.ensures.near there (λ d apart. c.put.ensures.others d (λ e. apart (e ∙ b.pair)));
+      near = near-more board filling.layout filling.pair l.yielded rest pair c.below-below-items.ensures.needs_first split l.tables c.drop_unneeded.new.tables
+          c.put.new.self l.invariant.near c.drop_unneeded.ensures.near there (λ d apart. c.put.ensures.others d (λ e. apart (e ∙ b.pair)));
       there = subst (λ (o : Option Counts). IfSome o (IsThere board filling.layout c.put.new.self)) (sym none) tt;
       last = subst (λ (o : Option Counts). IfSome o (IsLast (l.yielded ++ pair ∷ []))) (sym none) tt;
-      leads = goes_further board filling.layout filling.board.now filling.crew.team.blocks {T = Unit {0}} start
+      leads = goes_further board filling.layout filling.board.now filling.context.parallelism.blocks {T = Unit {0}} start
           (rest_of filling.board.now new.written.items new.sent (Some pair) rest here)
           (rest_of filling.board.now more.written.items more.sent more.waiting rest next) (Ok (tt {0})) leads (c.in_ok-file_waiting.ensures.filled rest);
       count = omega (
@@ -258,7 +258,7 @@ loop-below-preserved-in-Continue-branch-2 g c =
       locked = c.file_waiting.ensures.locked;
       unfailed = c.in_ok-file_waiting.ensures.caused ∙ (c.in_ok-table.ensures.caused ∙ l.invariant.unfailed);
       uncounted = c.in_ok-file_waiting.ensures.counted ∙ (c.in_ok-table.ensures.counted ∙ l.invariant.uncounted);
-      told = g.met.T.Watch.joins _ _ _ (g.met.T.Watch.joins _ _ _ l.invariant.told c.build_beside.ensures.told) c.file_waiting.ensures.told;
+      reported = g.met.T.Watch.joins _ _ _ (g.met.T.Watch.joins _ _ _ l.invariant.reported c.build_beside.ensures.reported) c.file_waiting.ensures.reported;
     }
 
 -- ---- no pair is left
@@ -275,9 +275,9 @@ returns-clause-filled g c =
       here = place_of (g.F.Folder.files c.args.folder.now) (g.O.Sink.contents c.args.output.now);
     } in
     let next = place_of (g.F.Folder.files c.file_waiting-2.new.folder) (g.O.Sink.contents c.file_waiting-2.new.output) in
-    comes_to g.B.Geometry.shape filling.layout filling.board.now filling.crew.team.blocks filling.pair start.here next new.written.items new.sent new.waiting
+    comes_to g.B.Geometry.shape filling.layout filling.board.now filling.context.parallelism.blocks filling.pair start.here next new.written.items new.sent new.waiting
     c.file_waiting-2.result c.file_waiting-2.ensures.none
-    (goes_from g.B.Geometry.shape filling.layout filling.board.now filling.crew.team.blocks start l.filled.written.items l.filled.sent l.filled.waiting
+    (goes_from g.B.Geometry.shape filling.layout filling.board.now filling.context.parallelism.blocks start l.filled.written.items l.filled.sent l.filled.waiting
     l.below-iterator [] (place_of (g.F.Folder.files l.folder) (g.O.Sink.contents l.output))
     (rest_of filling.board.now new.written.items new.sent new.waiting [] next) c.file_waiting-2.result c.in-None.ensures.steps.0 l.invariant.leads
     (c.file_waiting-2.ensures.filled []))
@@ -293,5 +293,5 @@ returns-clause-counted g c =
     subst (λ (n : ℕ). CountsWrites {T = Unit {0}} n (g.O.Sink.failures c.file_waiting-2.new.output) c.file_waiting-2.result) c.loop-below.invariant.uncounted
     c.file_waiting-2.ensures.counted
 
-pub returns-clause-told : goal.returns-clause-told
-returns-clause-told g c = g.met.T.Watch.joins _ _ _ c.loop-below.invariant.told c.file_waiting-2.ensures.told
+pub returns-clause-reported : goal.returns-clause-reported
+returns-clause-reported g c = g.met.T.Watch.joins _ _ _ c.loop-below.invariant.reported c.file_waiting-2.ensures.reported

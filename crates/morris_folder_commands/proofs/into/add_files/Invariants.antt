@@ -12,10 +12,10 @@ use Rattle.morris_folder_commands.proofs.into.add_files.Given as goal
 abbrev pub invariant-loop-below : goal.invariant-loop-below
 invariant-loop-below g l = record {
   split : l.yielded ++ l.below-iterator ≡ below_of l.fn.filling.pair;
-  near : HasNear g.B.Geometry.shape l.fn.filling.layout l.stock l.yielded;
-  there : IfSome l.filled.waiting (IsThere g.B.Geometry.shape l.fn.filling.layout l.stock);
+  near : HasNear g.B.Geometry.shape l.fn.filling.layout l.tables l.yielded;
+  there : IfSome l.filled.waiting (IsThere g.B.Geometry.shape l.fn.filling.layout l.tables);
   last : IfSome l.filled.waiting (IsLast l.yielded);
-  leads : LeadsTo g.B.Geometry.shape l.fn.filling.layout l.fn.filling.board.now l.fn.filling.crew.team.blocks
+  leads : LeadsTo g.B.Geometry.shape l.fn.filling.layout l.fn.filling.board.now l.fn.filling.context.parallelism.blocks
       (record {
         pairs = below_of l.fn.filling.pair;
         sent = 0;
@@ -28,5 +28,5 @@ invariant-loop-below g l = record {
   locked : g.F.Folder.locked l.folder ≡ true;
   unfailed : g.F.Folder.failures l.folder ≡ g.F.Folder.failures l.initial.folder;
   uncounted : g.O.Sink.failures l.output ≡ g.O.Sink.failures l.initial.output;
-  told : g.T.Watch.becomes l.initial.teller l.teller;
+  reported : g.T.Watch.becomes l.initial.progress l.progress;
 }

@@ -7,12 +7,12 @@ use Rattle.morris_folder_commands.proofs.into.fill_locked.Goals as goal
 
 pub returns-clause-filled : goal.returns-clause-filled
 returns-clause-filled g c =
-    let told = g.O.Sink.contents c.fill.new.output in
-    let here = place_of (g.F.Folder.files c.fill.new.folder) told in
-    let after = place_of (g.F.Folder.files c.end.new.folder) told in
-    c.in_ok-written.ensures.filled c.args.kept.now after c.end.result
-    (ends_with c.args.filling.now.board.now c.args.kept.now _ c.in_ok-written.written.items here after c.end.result c.as_slice.ensures.value
-    (c.end.ensures.ended told))
+    let reported = g.O.Sink.contents c.fill.new.output in
+    let here = place_of (g.F.Folder.files c.fill.new.folder) reported in
+    let after = place_of (g.F.Folder.files c.end.new.folder) reported in
+    c.in_ok-written.ensures.filled c.args.unchanged.now after c.end.result
+    (ends_with c.args.filling.now.board.now c.args.unchanged.now _ c.in_ok-written.written.items here after c.end.result c.as_slice.ensures.value
+    (c.end.ensures.ended reported))
 
 pub returns-clause-caused : goal.returns-clause-caused
 returns-clause-caused g c =

@@ -13,25 +13,25 @@ returns-clause-answer g c =
     let out = g.O.Sink.contents c.args.output.now in
     let begun = place_of (g.F.Folder.files c.begin_list.new.folder) out in
     let after = place_of (g.F.Folder.files c.fill_locked.new.folder) (g.O.Sink.contents c.fill_locked.new.output) in
-    let filled = subst (λ lines. FillsFolder g.B.Geometry.shape filling.layout filling.board.now filling.pair filling.crew.team.blocks lines begun after c.fill_locked.result)
+    let filled = subst (λ lines. FillsFolder g.B.Geometry.shape filling.layout filling.board.now filling.pair filling.context.parallelism.blocks lines begun after c.fill_locked.result)
     c.as_slice.ensures.value c.fill_locked.ensures.filled in
     inr (
       place_of (g.F.Folder.files c.enter.new.folder) out,
       c.in_ok-enter.ensures.entered,
       Keeps-refl out,
-      inr (c.in_ok-kept.kept.items, begun, c.in_ok-kept.ensures.begun, Keeps-refl out, filled),
+      inr (c.in_ok-unchanged.unchanged.items, begun, c.in_ok-unchanged.ensures.begun, Keeps-refl out, filled),
     )
 
 -- the list of digests isn't begun
-pub returns-in_err-kept-clause-answer : goal.returns-in_err-kept-clause-answer
-returns-in_err-kept-clause-answer g c =
+pub returns-in_err-unchanged-clause-answer : goal.returns-in_err-unchanged-clause-answer
+returns-in_err-unchanged-clause-answer g c =
     let out = g.O.Sink.contents c.args.output.now in
-    let failed = err_from_is_err_and c.from_residual-in_err-kept.result c.from_residual-in_err-kept.ensures.1 in
+    let failed = err_from_is_err_and c.from_residual-in_err-unchanged.result c.from_residual-in_err-unchanged.ensures.1 in
     inr (
       place_of (g.F.Folder.files c.enter.new.folder) out,
       c.in_ok-enter.ensures.entered,
       Keeps-refl out,
-      inl (_, failed.1 ∙ ap Err failed.2, c.in_err-kept.ensures.begun, Keeps-refl out),
+      inl (_, failed.1 ∙ ap Err failed.2, c.in_err-unchanged.ensures.begun, Keeps-refl out),
     )
 
 -- ---- what a refusal has for a cause
@@ -47,9 +47,9 @@ returns-in_err-enter-clause-caused g c =
     old old (g.F.Folder.failures c.enter.new.folder) refl (λ h. h) (λ h. absurd h) c.in_err-enter.field-0.0 c.in_err-enter.ensures.caused)
 
 -- the list of digests isn't begun
-pub returns-in_err-kept-clause-caused : goal.returns-in_err-kept-clause-caused
-returns-in_err-kept-clause-caused g c =
-    let failed = err_from_is_err_and c.from_residual-in_err-kept.result c.from_residual-in_err-kept.ensures.1 in
+pub returns-in_err-unchanged-clause-caused : goal.returns-in_err-unchanged-clause-caused
+returns-in_err-unchanged-clause-caused g c =
+    let failed = err_from_is_err_and c.from_residual-in_err-unchanged.result c.from_residual-in_err-unchanged.ensures.1 in
     let name = c.args.filling.now.board.now in
     let taken = g.F.Folder.taken c.args.folder.now in
     let files = g.F.Folder.files c.args.folder.now in
@@ -57,8 +57,8 @@ returns-in_err-kept-clause-caused g c =
     rw (failed.1, failed.2)
     (caused_on g.F.Reader.Source.failures g.F.Writer.Sink.failures (Some false) taken (MayBeLong name entered) (MayBeLong name files)
     (g.F.Folder.failures c.args.folder.now) (g.F.Folder.failures c.enter.new.folder) (g.F.Folder.failures c.begin_list.new.folder)
-    c.in_ok-enter.ensures.caused (nobody taken) (long_before name files entered c.in_ok-enter.ensures.entered) c.in_err-kept.field-0.0
-    c.in_err-kept.ensures.caused)
+    c.in_ok-enter.ensures.caused (nobody taken) (long_before name files entered c.in_ok-enter.ensures.entered) c.in_err-unchanged.field-0.0
+    c.in_err-unchanged.ensures.caused)
 
 pub returns-clause-caused : goal.returns-clause-caused
 returns-clause-caused g c =
@@ -66,4 +66,4 @@ returns-clause-caused g c =
     cause_on g.F.Reader.Source.failures g.F.Writer.Sink.failures (Some false) taken ⊥
     (MayBeLong c.args.filling.now.board.now (g.F.Folder.files c.args.folder.now)) (g.F.Folder.failures c.args.folder.now)
     (g.F.Folder.failures c.begin_list.new.folder) (g.F.Folder.failures c.fill_locked.new.folder)
-    (c.in_ok-kept.ensures.caused ∙ c.in_ok-enter.ensures.caused) (nobody taken) (λ h. absurd h) c.fill_locked.result c.fill_locked.ensures.caused
+    (c.in_ok-unchanged.ensures.caused ∙ c.in_ok-enter.ensures.caused) (nobody taken) (λ h. absurd h) c.fill_locked.result c.fill_locked.ensures.caused

@@ -6,21 +6,21 @@ use Rattle.morris_workers.specs.Ranges.{range_fault}
 use Rattle.morris_jobs.proofs.OrderLaws.{answers_order}
 use Rattle.morris_folder_commands.specs.Causes.{MayBeLong}
 use Rattle.morris_folder_commands.specs.Into.{AnswersFolder, StaysPut, place_of}
-use Rattle.morris_folder_commands.proofs.CauseLaws.{team_caused, text_caused}
+use Rattle.morris_folder_commands.proofs.CauseLaws.{parallelism_caused, text_caused}
 use Rattle.morris_folder_commands.proofs.into.into_on.Goals as goal
 
 pub returns-clause-answer : goal.returns-clause-answer
 returns-clause-answer g c =
     let board = g.B.Geometry.shape in
-    let order = c.args.order in
+    let build_args = c.args.build_args in
     let pair = c.in_ok-pair.pair in
     let before = place_of (g.F.Folder.files c.args.folder.now) (g.O.Sink.contents c.args.output.now) in
     let after = place_of (g.F.Folder.files c.into_folder.new.folder) (g.O.Sink.contents c.into_folder.new.output) in
     let r = c.into_folder.result in
-    let team = c.in_ok-team.ensures in
-    answers_order board c.into_folder.ensures.points order.pair.now pair c.in_ok-pair.ensures r (StaysPut before after)
-    (λ p. AnswersFolder board c.args.layout order.board.now p order.blocks before after r) order.workers order.blocks team.2
-    (subst (λ blocks. AnswersFolder board c.args.layout order.board.now pair blocks before after r) team.1 c.into_folder.ensures.answer)
+    let parallelism = c.in_ok-parallelism.ensures in
+    answers_order board c.into_folder.ensures.points build_args.pair.now pair c.in_ok-pair.ensures r (StaysPut before after)
+    (λ p. AnswersFolder board c.args.layout build_args.board.now p build_args.blocks before after r) build_args.workers build_args.blocks parallelism.2
+    (subst (λ blocks. AnswersFolder board c.args.layout build_args.board.now pair blocks before after r) parallelism.1 c.into_folder.ensures.answer)
 
 -- ---- refusals before the folder is touched
 
@@ -30,14 +30,14 @@ returns-in_err-pair-clause-caused g c =
     let old = g.F.Folder.failures c.args.folder.now in
     rw (failed.1, failed.2)
     (text_caused g.F.Reader.Source.failures g.F.Writer.Sink.failures (g.F.Folder.taken c.args.folder.now)
-    (MayBeLong c.args.order.board.now (g.F.Folder.files c.args.folder.now)) old old g.B.Geometry.POINTS c.args.order.pair.now c.in_err-pair.field-0.0
+    (MayBeLong c.args.build_args.board.now (g.F.Folder.files c.args.folder.now)) old old g.B.Geometry.POINTS c.args.build_args.pair.now c.in_err-pair.field-0.0
     c.in_err-pair.ensures)
 
-pub returns-in_err-team-clause-caused : goal.returns-in_err-team-clause-caused
-returns-in_err-team-clause-caused g c =
-    let failed = err_from_is_err_and c.from_residual-in_err-team.result c.from_residual-in_err-team.ensures.1 in
+pub returns-in_err-parallelism-clause-caused : goal.returns-in_err-parallelism-clause-caused
+returns-in_err-parallelism-clause-caused g c =
+    let failed = err_from_is_err_and c.from_residual-in_err-parallelism.result c.from_residual-in_err-parallelism.ensures.1 in
     let old = g.F.Folder.failures c.args.folder.now in
     rw (failed.1, failed.2)
-    (team_caused g.F.Reader.Source.failures g.F.Writer.Sink.failures (g.F.Folder.taken c.args.folder.now)
-    (MayBeLong c.args.order.board.now (g.F.Folder.files c.args.folder.now)) old old (range_fault c.args.order.workers c.args.order.blocks)
-    c.in_err-team.field-0.0 c.in_err-team.ensures)
+    (parallelism_caused g.F.Reader.Source.failures g.F.Writer.Sink.failures (g.F.Folder.taken c.args.folder.now)
+    (MayBeLong c.args.build_args.board.now (g.F.Folder.files c.args.folder.now)) old old (range_fault c.args.build_args.workers c.args.build_args.blocks)
+    c.in_err-parallelism.field-0.0 c.in_err-parallelism.ensures)

@@ -34,7 +34,7 @@ loop-preserved g c =
             rw w.classes-is (counted-other g.B.Geometry.shape g.B.Geometry.POINTS c.args.count (omega (arith, g.met.B.Geometry.few)) g.met.B.Geometry.point_count g.met.B.Geometry.has_symmetries c.loop.counter c.loop.set c.loop.classes here c.loop.invariant.counted
             (sym c.is_representative.ensures ∙ w.if-is_representative.false))
       ];
-      next = elim c.match-following.branch [
+      next = elim c.match-next_set.branch [
         | in-Some w ↦ λ h.
             rw w.set-is
             (subst (λ n. IsRanked n 0 c.args.count (c.loop.counter + 1) w.in-Some.next) c.POINTS-in-loop.ensures

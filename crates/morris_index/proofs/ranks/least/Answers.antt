@@ -20,19 +20,19 @@ returns-then-left-eq0 c =
 
 pub loop-point-preserved : goal.loop-point-preserved
 loop-point-preserved c =
-    let step : suc c.loop-point.point ≡ c.loop-point.point + 1 = omega arith in
+    let unmove : suc c.loop-point.point ≡ c.loop-point.point + 1 = omega arith in
     elim c.if-not-has.branch [
       | then-not-has w ↦
           let free : has c.args.outside c.loop-point.point ≡ false = sym c.has.ensures ∙ w.if-not-has.true in
           record {
-            full = rw (w.found-is, w.with-found.ensures, ← step) (full-more c.args.outside c.loop-point.point c.loop-point.found c.loop-point.invariant.full free);
-            counted = omega (arith, w.left-is, ap (number_outside c.args.outside) step, number-outside c.args.outside c.loop-point.point free, c.loop-point.invariant.counted);
+            full = rw (w.found-is, w.with-found.ensures, ← unmove) (full-more c.args.outside c.loop-point.point c.loop-point.found c.loop-point.invariant.full free);
+            counted = omega (arith, w.left-is, ap (number_outside c.args.outside) unmove, number-outside c.args.outside c.loop-point.point free, c.loop-point.invariant.counted);
           }
       | else-not-has w ↦
           let taken : has c.args.outside c.loop-point.point ≡ true = sym c.has.ensures ∙ w.if-not-has.false in
           record {
-            full = rw (w.found-is, ← step) (full-inside c.args.outside c.loop-point.point c.loop-point.found c.loop-point.invariant.full taken);
-            counted = omega (arith, w.left-is, ap (number_outside c.args.outside) step, number-inside c.args.outside c.loop-point.point taken, c.loop-point.invariant.counted);
+            full = rw (w.found-is, ← unmove) (full-inside c.args.outside c.loop-point.point c.loop-point.found c.loop-point.invariant.full taken);
+            counted = omega (arith, w.left-is, ap (number_outside c.args.outside) unmove, number-inside c.args.outside c.loop-point.point taken, c.loop-point.invariant.counted);
           }
     ]
 

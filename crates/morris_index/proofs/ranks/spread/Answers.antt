@@ -16,8 +16,8 @@ use Rattle.morris_index.proofs.ranks.spread.Goals.{In-Some}
 -- the point that comes next, of those of the set
 next_here : (s p : ℕ) (before after left : List ℕ) → s < 2 ^ 24 → before ++ left ≡ members s → left ≡ p ∷ after
     → (p < 24) × (has s p ≡ true) × (count_below (has s) p ≡ length before)
-next_here s p before after left within split step =
-    let cut : before ++ p ∷ after ≡ members s = ap (λ t. before ++ t) (sym step) ∙ split in
+next_here s p before after left within split unmove =
+    let cut : before ++ p ∷ after ≡ members s = ap (λ t. before ++ t) (sym unmove) ∙ split in
     let stands = point_at s 24 p before after within (omega arith) cut in
     (member_lt s 24 p before after within cut, stands.0, stands.1)
 
@@ -93,7 +93,7 @@ returns-clause-apart c =
     rw c.from_mask.ensures (ended c.args.outside c.args.numbers c.loop-point.spread c.loop-point.yielded (members c.loop-point.point-iterator)
     c.requires.board c.loop-point.invariant.split c.in-None.ensures.steps.0 c.requires.fits c.loop-point.invariant.passed).apart
 
-pub returns-clause-squeezed : goal.returns-clause-squeezed
-returns-clause-squeezed c =
+pub returns-clause-squeeze : goal.returns-clause-squeeze
+returns-clause-squeeze c =
     rw c.from_mask.ensures (ended c.args.outside c.args.numbers c.loop-point.spread c.loop-point.yielded (members c.loop-point.point-iterator)
-    c.requires.board c.loop-point.invariant.split c.in-None.ensures.steps.0 c.requires.fits c.loop-point.invariant.passed).squeezed
+    c.requires.board c.loop-point.invariant.split c.in-None.ensures.steps.0 c.requires.fits c.loop-point.invariant.passed).squeeze

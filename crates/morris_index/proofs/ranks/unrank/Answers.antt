@@ -6,7 +6,7 @@ use Rattle.morris_index.specs.Numbering.{number_outside, IsRanked}
 use Rattle.morris_index.proofs.BinomialTable.{choose_small}
 use Rattle.morris_index.proofs.RankLaws.{number-count}
 use Rattle.morris_index.proofs.Spreading.{spread-ranked, listed-fits}
-use Rattle.morris_index.proofs.Unranking.{unranking-start, unranking-step, unranking-end, unranking-last, last_lt}
+use Rattle.morris_index.proofs.Unranking.{unranking-start, unranking-unmove, unranking-end, unranking-last, last_lt}
 use Rattle.morris_index.proofs.ranks.unrank.Goals as goal
 use Rattle.morris_index.proofs.ranks.unrank.Goals.{Then-left-eq1, Joined-left-eq1, then-left-eq1, else-left-eq1}
 
@@ -24,9 +24,9 @@ loop-left-init c = unranking-start (number_outside c.args.outside c.args.points)
 pub loop-left-preserved : goal.loop-left-preserved
 loop-left-preserved c =
     let few = numbers_few c.args.outside c.args.points c.requires.board in
-    let lower : c.loop-left.rest - choose c.highest-number.result.0 c.loop-left.left ≡ c.highest-number.result.1 = omega (arith, c.highest-number.ensures.left) in
+    let lower : c.loop-left.rest - choose c.highest_point-number.result.0 c.loop-left.left ≡ c.highest_point-number.result.1 = omega (arith, c.highest_point-number.ensures.left) in
     rw (c.with-numbers.ensures, ← lower)
-    (unranking-step _ _ _ _ _ _ _ (omega arith) c.loop-left.invariant few (omega (arith, c.highest-number.ensures.left)) c.highest-number.ensures.highest)
+    (unranking-unmove _ _ _ _ _ _ _ (omega arith) c.loop-left.invariant few (omega (arith, c.highest_point-number.ensures.left)) c.highest_point-number.ensures.highest)
 
 -- the rank of a set of one point
 last_low : (c : Then-left-eq1) → c.loop-left.rest < 24
@@ -60,4 +60,4 @@ spread-requires c = record {
 pub returns : goal.returns
 returns c =
     spread-ranked c.args.points c.args.outside c.args.count c.args.rank c.if-left-eq1.numbers c.spread.result c.requires.board
-    (found (goal.at.returns c).Joined-left-eq1) c.spread.ensures.within c.spread.ensures.apart c.spread.ensures.squeezed
+    (found (goal.at.returns c).Joined-left-eq1) c.spread.ensures.within c.spread.ensures.apart c.spread.ensures.squeeze

@@ -21,7 +21,7 @@ returns-clause-said g c =
       said = λ other e. same_found found other (c.in_ok-found.ensures.said other e);
       picked =
           subst (λ best. ArePicked board files s found (moves_of board s) best) (sym is)
-          (subst (λ ms. ArePicked board files s found ms (best_among found os)) c.in_ok-outcomes.ensures.listed (picked_among board files s found os c.in_ok-outcomes.ensures.told));
+          (subst (λ ms. ArePicked board files s found ms (best_among found os)) c.in_ok-outcomes.ensures.listed (picked_among board files s found os c.in_ok-outcomes.ensures.reported));
     }
 
 pub returns-clause-best : goal.returns-clause-best
@@ -33,7 +33,7 @@ returns-clause-best g c = λ exact after.
     let os = c.in_ok-outcomes.outcomes.items in
     let is : best ≡ best_among found os = c.in_ok-best.ensures ∙ ap (best_among found) c.as_slice.ensures.value in
     let here = c.in_ok-found.ensures.exact exact in
-    best_all board s found best here (best_told board c.args.tables.now s os c.in_ok-outcomes.ensures.listed c.in_ok-outcomes.ensures.told after found best is here)
+    best_all board s found best here (best_told board c.args.tables.now s os c.in_ok-outcomes.ensures.listed c.in_ok-outcomes.ensures.reported after found best is here)
 
 pub returns-clause-some : goal.returns-clause-some
 returns-clause-some g c = λ exact after.
@@ -45,8 +45,8 @@ returns-clause-some g c = λ exact after.
     let os = c.in_ok-outcomes.outcomes.items in
     let is : best ≡ best_among found os = c.in_ok-best.ensures ∙ ap (best_among found) c.as_slice.ensures.value in
     let here = c.in_ok-found.ensures.exact exact in
-    some_listed board s found best here (values_told board files s os c.in_ok-outcomes.ensures.listed c.in_ok-outcomes.ensures.told after)
-    (best_told board files s os c.in_ok-outcomes.ensures.listed c.in_ok-outcomes.ensures.told after found best is here)
+    some_listed board s found best here (values_told board files s os c.in_ok-outcomes.ensures.listed c.in_ok-outcomes.ensures.reported after)
+    (best_told board files s os c.in_ok-outcomes.ensures.listed c.in_ok-outcomes.ensures.reported after found best is here)
 
 -- ---- why there are none
 

@@ -7,18 +7,18 @@ use Rattle.morris_index.specs.Numbering.{rank_of}
 use Rattle.morris_index.specs.Classes.{class_of, representative_of, symmetry_of}
 use Rattle.morris_index.proofs.ClassLaws.{symmetry_within}
 use Rattle.morris_index.proofs.IndexLaws.{within_24}
-use Rattle.morris_lookup.specs.Prepared.{lead_of, LeadAll}
+use Rattle.morris_lookup.specs.Prepared.{class_word_of, AreClassWords}
 use Rattle.morris_lookup.proofs.LeadLaws.{lead_parts, rank_is}
 use Rattle.morris_lookup.proofs.ListLaws.{partitioned, class_is}
 use Rattle.morris_lookup.proofs.classes.class_by.Goals as goal
 
 -- what the word of a set says
-module _ (board : Shape) (few : board.points ≤ 24) (y : HasSymmetries board) (most : board.symmetries ≤ 16) (leads : List ℕ) (set place : ℕ)
-    (lead : LeadAll board (count_of set) leads) (small : set < 2 ^ board.points) (ranked : place ≡ rank_of (members set)) (inside : place < length leads) where
-  parts : (get_or leads place 0 / 16 ≡ class_of board set) × (get_or leads place 0 % 16 ≡ symmetry_of board set)
+module _ (board : Shape) (few : board.points ≤ 24) (y : HasSymmetries board) (most : board.symmetries ≤ 16) (class_words : List ℕ) (set place : ℕ)
+    (class_word : AreClassWords board (count_of set) class_words) (small : set < 2 ^ board.points) (ranked : place ≡ rank_of (members set)) (inside : place < length class_words) where
+  parts : (get_or class_words place 0 / 16 ≡ class_of board set) × (get_or class_words place 0 % 16 ≡ symmetry_of board set)
   parts =
-      let is : get_or leads place 0 ≡ lead_of board set =
-      ap (λ p. get_or leads p 0) (ranked ∙ sym (zero-add (rank_of (members set)))) ∙ (lead (omega (arith, inside))).1 set small refl in
+      let is : get_or class_words place 0 ≡ class_word_of board set =
+      ap (λ p. get_or class_words p 0) (ranked ∙ sym (zero-add (rank_of (members set)))) ∙ (class_word (omega (arith, inside))).1 set small refl in
       let two = lead_parts board set (omega (arith, symmetry_within board few y set small, most)) in
       (ap (λ w. w / 16) is ∙ two.0, ap (λ w. w % 16) is ∙ two.1)
 
@@ -26,23 +26,23 @@ pub rank-requires-clause-board : goal.rank-requires-clause-board
 rank-requires-clause-board g c = within_24 c.args.set g.B.Geometry.POINTS c.requires.within g.met.B.Geometry.few
 
 pub returns-clause-class : goal.returns-clause-class
-returns-clause-class g c = λ listed lead.
+returns-clause-class g c = λ listed class_word.
     let few : g.B.Geometry.shape.points ≤ 24 = omega (arith, g.met.B.Geometry.few, g.met.B.Geometry.point_count) in
     let most : g.B.Geometry.shape.symmetries ≤ 16 = omega (arith, g.met.B.Geometry.few_symmetries, g.met.B.Geometry.symmetry_count) in
     let small : c.args.set < 2 ^ g.B.Geometry.shape.points = subst (λ n. c.args.set < 2 ^ n) (sym g.met.B.Geometry.point_count) c.requires.within in
     c.in-Some.ensures.class
-    ∙ (parts g.B.Geometry.shape few g.met.B.Geometry.has_symmetries most c.args.leads.now c.args.set c.rank.result lead small (c.rank.ensures.value ∙ sym (rank_is c.args.set)) c.in-Some.ensures.inside).0
+    ∙ (parts g.B.Geometry.shape few g.met.B.Geometry.has_symmetries most c.args.class_words.now c.args.set c.rank.result class_word small (c.rank.ensures.value ∙ sym (rank_is c.args.set)) c.in-Some.ensures.inside).0
 
 pub returns-clause-symmetry : goal.returns-clause-symmetry
-returns-clause-symmetry g c = λ lead.
+returns-clause-symmetry g c = λ class_word.
     let few : g.B.Geometry.shape.points ≤ 24 = omega (arith, g.met.B.Geometry.few, g.met.B.Geometry.point_count) in
     let most : g.B.Geometry.shape.symmetries ≤ 16 = omega (arith, g.met.B.Geometry.few_symmetries, g.met.B.Geometry.symmetry_count) in
     let small : c.args.set < 2 ^ g.B.Geometry.shape.points = subst (λ n. c.args.set < 2 ^ n) (sym g.met.B.Geometry.point_count) c.requires.within in
     c.in-Some.ensures.symmetry
-    ∙ (parts g.B.Geometry.shape few g.met.B.Geometry.has_symmetries most c.args.leads.now c.args.set c.rank.result lead small (c.rank.ensures.value ∙ sym (rank_is c.args.set)) c.in-Some.ensures.inside).1
+    ∙ (parts g.B.Geometry.shape few g.met.B.Geometry.has_symmetries most c.args.class_words.now c.args.set c.rank.result class_word small (c.rank.ensures.value ∙ sym (rank_is c.args.set)) c.in-Some.ensures.inside).1
 
 pub returns-2-clause-class : goal.returns-2-clause-class
-returns-2-clause-class g c = λ listed lead.
+returns-2-clause-class g c = λ listed class_word.
     let board = g.B.Geometry.shape in
     let few : board.points ≤ 24 = omega (arith, g.met.B.Geometry.few, g.met.B.Geometry.point_count) in
     let small : c.args.set < 2 ^ board.points = subst (λ n. c.args.set < 2 ^ n) (sym g.met.B.Geometry.point_count) c.requires.within in

@@ -13,15 +13,15 @@ pub returns-then-out-move_count-clause-room : goal.returns-then-out-move_count-c
 returns-then-out-move_count-clause-room g c = λ less. refl
 
 pub returns-then-out-move_count-clause-refused : goal.returns-then-out-move_count-clause-refused
-returns-then-out-move_count-clause-refused g c = λ serve fits. absurd (omega (arith, fits, c.if-out-move_count.true, c.move_count.ensures))
+returns-then-out-move_count-clause-refused g c = λ lists_fit fits. absurd (omega (arith, fits, c.if-out-move_count.true, c.move_count.ensures))
 
 pub loop-m-init : goal.loop-m-init
 loop-m-init g c = record {
   listed = search rules;
   done = refl;
   room = omega (arith, c.if-out-move_count.false, c.move_count.ensures);
-  said = λ serve. said-none g.B.Geometry.shape (contents c.args.files.now) c.args.position.now;
-  exact = λ serve exact. tt;
+  said = λ lists_fit. said-none g.B.Geometry.shape (contents c.args.files.now) c.args.position.now;
+  exact = λ lists_fit exact. tt;
 }
 
 pub returns-in_err-out-clause-count : goal.returns-in_err-out-clause-count
@@ -31,17 +31,17 @@ pub returns-in_err-out-clause-room : goal.returns-in_err-out-clause-room
 returns-in_err-out-clause-room g c = λ less. absurd (omega (arith, less, c.loop-m.invariant.room, c.loop-m.auto.out))
 
 pub returns-in_err-out-clause-said : goal.returns-in_err-out-clause-said
-returns-in_err-out-clause-said g c = λ serve fits. let failed = err_from_is_err_and c.from_residual.result c.from_residual.ensures.1 in rw failed.1 tt
+returns-in_err-out-clause-said g c = λ lists_fit fits. let failed = err_from_is_err_and c.from_residual.result c.from_residual.ensures.1 in rw failed.1 tt
 
 pub returns-in_err-out-clause-exact : goal.returns-in_err-out-clause-exact
-returns-in_err-out-clause-exact g c = λ serve exact. let failed = err_from_is_err_and c.from_residual.result c.from_residual.ensures.1 in rw failed.1 tt
+returns-in_err-out-clause-exact g c = λ lists_fit exact. let failed = err_from_is_err_and c.from_residual.result c.from_residual.ensures.1 in rw failed.1 tt
 
 pub returns-in_err-out-clause-refused : goal.returns-in_err-out-clause-refused
-returns-in_err-out-clause-refused g c = λ serve fits.
+returns-in_err-out-clause-refused g c = λ lists_fit fits.
     let failed = err_from_is_err_and c.from_residual.result c.from_residual.ensures.1 in
     rw (failed.1, failed.2)
-    (said-stops g.B.Geometry.shape (contents c.args.files.now) c.args.position.now c.loop-m.yielded c.in-Some.m c.next.new.self _ (take c.loop-m.done c.loop-m.out) c.in_err-out.field-0.0 (c.loop-m.invariant.said serve)
-    (c.in_err-out.ensures.said serve) (listed_next _ _ _ _ _ c.loop-m.invariant.listed c.in-Some.ensures.steps))
+    (said-stops g.B.Geometry.shape (contents c.args.files.now) c.args.position.now c.loop-m.yielded c.in-Some.m c.next.new.self _ (take c.loop-m.done c.loop-m.out) c.in_err-out.field-0.0 (c.loop-m.invariant.said lists_fit)
+    (c.in_err-out.ensures.said lists_fit) (listed_next _ _ _ _ _ c.loop-m.invariant.listed c.in-Some.ensures.steps))
 
 pub bounds-out-done : goal.bounds-out-done
 bounds-out-done g c =
@@ -66,26 +66,26 @@ loop-m-preserved g c =
       listed = listed_next _ _ _ _ _ c.loop-m.invariant.listed c.in-Some.ensures.steps;
       done = omega (arith, length-append c.loop-m.yielded (c.in-Some.m ∷ []), c.loop-m.invariant.done);
       room = omega (arith, length-set c.loop-m.out c.loop-m.done c.in_ok-out.field-0, c.loop-m.invariant.room);
-      said = λ serve.
-          said-more g.B.Geometry.shape (contents c.args.files.now) c.args.position.now c.loop-m.yielded c.in-Some.m (take c.loop-m.done c.loop-m.out) c.in_ok-out.field-0 (c.loop-m.invariant.said serve) (c.in_ok-out.ensures.said serve)
+      said = λ lists_fit.
+          said-more g.B.Geometry.shape (contents c.args.files.now) c.args.position.now c.loop-m.yielded c.in-Some.m (take c.loop-m.done c.loop-m.out) c.in_ok-out.field-0 (c.loop-m.invariant.said lists_fit) (c.in_ok-out.ensures.said lists_fit)
           ∙ ap (λ os. Ok os) (sym written);
-      exact = λ serve exact.
+      exact = λ lists_fit exact.
           subst (AreExactOutcomes g.B.Geometry.shape c.args.position.now (c.loop-m.yielded ++ c.in-Some.m ∷ [])) (sym written)
-          (exact_more g.B.Geometry.shape c.args.position.now c.loop-m.yielded (take c.loop-m.done c.loop-m.out) c.in-Some.m c.in_ok-out.field-0 (c.loop-m.invariant.exact serve exact)
-          (c.in_ok-out.ensures.exact serve (exact c.in-Some.m (move_there c.loop-m.yielded c.next.new.self _ c.in-Some.m split))));
+          (exact_more g.B.Geometry.shape c.args.position.now c.loop-m.yielded (take c.loop-m.done c.loop-m.out) c.in-Some.m c.in_ok-out.field-0 (c.loop-m.invariant.exact lists_fit exact)
+          (c.in_ok-out.ensures.exact lists_fit (exact c.in-Some.m (move_there c.loop-m.yielded c.next.new.self _ c.in-Some.m split))));
     }
 
 pub returns-clause-count : goal.returns-clause-count
 returns-clause-count g c = c.loop-m.invariant.done ∙ ap length (listed_all _ _ _ c.loop-m.invariant.listed c.in-None.ensures.steps.0)
 
 pub returns-clause-said : goal.returns-clause-said
-returns-clause-said g c = λ serve fits.
-    ap (outcomes_said g.B.Geometry.shape (contents c.args.files.now) c.args.position.now) (sym (listed_all _ _ _ c.loop-m.invariant.listed c.in-None.ensures.steps.0)) ∙ c.loop-m.invariant.said serve
+returns-clause-said g c = λ lists_fit fits.
+    ap (outcomes_said g.B.Geometry.shape (contents c.args.files.now) c.args.position.now) (sym (listed_all _ _ _ c.loop-m.invariant.listed c.in-None.ensures.steps.0)) ∙ c.loop-m.invariant.said lists_fit
 
 pub returns-clause-exact : goal.returns-clause-exact
-returns-clause-exact g c = λ serve exact.
+returns-clause-exact g c = λ lists_fit exact.
     subst (λ ms. AreExactOutcomes g.B.Geometry.shape c.args.position.now ms (take c.loop-m.done c.loop-m.out)) (listed_all _ _ _ c.loop-m.invariant.listed c.in-None.ensures.steps.0)
-    (c.loop-m.invariant.exact serve exact)
+    (c.loop-m.invariant.exact lists_fit exact)
 
 pub returns-clause-room : goal.returns-clause-room
 returns-clause-room g c = λ less. absurd (omega (arith, less, c.loop-m.invariant.room, c.loop-m.auto.out))

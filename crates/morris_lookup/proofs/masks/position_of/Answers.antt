@@ -1,7 +1,7 @@
 use Rattle.std.proofs.Common.{◌≡◌, ◌^◌, ◌<◌, ℕ, true, false, ◌&&◌, [], Result, Ok, Err, refl, ap, ◌∙◌, arith}
 use Rattle.std.proofs.lemmas.Bool.{cases_Bool, and_from, false≢true}
 use Rattle.morris_board.specs.Sets.{has, members}
-use Rattle.morris_board.specs.Positions.{Sides, is_sized, made}
+use Rattle.morris_board.specs.Positions.{Sides, is_sized, check_sides}
 use Rattle.morris_board.specs.declared.faults.Stones.{Stones}
 use Rattle.morris_board.proofs.PointsLaws.{members_all, has-below}
 use Rattle.std.proofs.Common.{inl, inr}
@@ -19,7 +19,7 @@ no_common own other common small is none p here = elim (cases_Bool (has other p)
   | inr free ↦ free
 ]
 
-not_sized : (s : Sides) (e : Stones) → Err e ≡ made s → is_sized s ≡ false
+not_sized : (s : Sides) (e : Stones) → Err e ≡ check_sides s → is_sized s ≡ false
 not_sized s e refused = elim (cases_Bool (is_sized s)) [
   | inl y ↦ absurd (no (rw y at refused))
   | inr n ↦ n
@@ -34,8 +34,8 @@ new-requires g c =
     record {
       own_within = omega (arith, most, c.from_mask-own.ensures, c.set_count-end.ensures.value, c.if-own-end.false);
       other_within = omega (arith, most, c.from_mask-other.ensures, c.set_count-end.ensures.value, c.if-other-end.false);
-      apart = no_common c.from_mask-own.result c.from_mask-other.result c.common.result
-          (omega (arith, c.from_mask-own.ensures, c.set_count-end.ensures.value, c.set_count-end.ensures.few, c.if-own-end.false)) c.common.ensures c.in-None.ensures.rest;
+      apart = no_common c.from_mask-own.result c.from_mask-other.result c.intersection.result
+          (omega (arith, c.from_mask-own.ensures, c.set_count-end.ensures.value, c.set_count-end.ensures.few, c.if-own-end.false)) c.intersection.ensures c.in-None.ensures.rest;
     }
 
 pub returns-in-Err-clause-refused : goal.returns-in-Err-clause-refused
@@ -44,8 +44,8 @@ returns-in-Err-clause-refused g c =
       rw (← c.from_mask-own.ensures, ← c.from_mask-other.ensures) (record {
         own_within = omega (arith, most, c.from_mask-own.ensures, c.set_count-end.ensures.value, c.if-own-end.false);
         other_within = omega (arith, most, c.from_mask-other.ensures, c.set_count-end.ensures.value, c.if-other-end.false);
-        apart = no_common c.from_mask-own.result c.from_mask-other.result c.common.result
-            (omega (arith, c.from_mask-own.ensures, c.set_count-end.ensures.value, c.set_count-end.ensures.few, c.if-own-end.false)) c.common.ensures c.in-None.ensures.rest;
+        apart = no_common c.from_mask-own.result c.from_mask-other.result c.intersection.result
+            (omega (arith, c.from_mask-own.ensures, c.set_count-end.ensures.value, c.set_count-end.ensures.few, c.if-own-end.false)) c.intersection.ensures c.in-None.ensures.rest;
       }),
       rw (← c.from_mask-own.ensures, ← c.from_mask-other.ensures) (not_sized _ _ c.in-Err.ensures),
     )

@@ -4,10 +4,10 @@ use Rattle.morris_lookup.specs.FileSets.{IsValueRefusal}
 use Rattle.morris_lookup.proofs.OutcomeLaws.{outcome_told}
 use Rattle.morris_lookup.proofs.outcomes.outcome_of.Goals as goal
 
-pub returns-clause-told : goal.returns-clause-told
-returns-clause-told g c =
+pub returns-clause-reported : goal.returns-clause-reported
+returns-clause-reported g c =
     outcome_told _ g.B.Geometry.shape c.args.tables.now c.args.position.now c.play.result c.args.m c.play.ensures c.in_ok-next.next c.in_ok-next.ensures.refused c.in_ok-next.ensures.said
-    c.in_ok-next.ensures.exact c.turned.result c.turned.ensures
+    c.in_ok-next.ensures.exact c.value_for_mover.result c.value_for_mover.ensures
 
 pub returns-in_err-next-clause-refused : goal.returns-in_err-next-clause-refused
 returns-in_err-next-clause-refused g c =

@@ -14,11 +14,11 @@ loop-m-preserved g c =
     record {
       listed = listed_next _ _ _ _ _ c.loop-m.invariant.listed c.in-Some.ensures.steps;
       steps = steps_more c.loop-m.outcomes.items _ c.in_ok-outcome.outcome _ c.in-Some.m pushed c.loop-m.invariant.steps c.in_ok-outcome.ensures.step;
-      told = λ o h. each_more (IsOutcome g.B.Geometry.shape c.args.tables.now c.args.position.now) c.loop-m.outcomes.items c.in_ok-outcome.outcome c.loop-m.invariant.told
-          c.in_ok-outcome.ensures.told o (subst (λ os. Contains os o) pushed h);
+      reported = λ o h. each_more (IsOutcome g.B.Geometry.shape c.args.tables.now c.args.position.now) c.loop-m.outcomes.items c.in_ok-outcome.outcome c.loop-m.invariant.reported
+          c.in_ok-outcome.ensures.reported o (subst (λ os. Contains os o) pushed h);
       found =
           each_more (λ m. missing_file c.args.tables.now (result_of c.args.position.now m) ≡ None) c.loop-m.yielded c.in-Some.m c.loop-m.invariant.found
-          (subst (λ m. missing_file c.args.tables.now (result_of c.args.position.now m) ≡ None) c.in_ok-outcome.ensures.step c.in_ok-outcome.ensures.told.found);
+          (subst (λ m. missing_file c.args.tables.now (result_of c.args.position.now m) ≡ None) c.in_ok-outcome.ensures.step c.in_ok-outcome.ensures.reported.found);
       few = omega (
         arith,
         ap length pushed,

@@ -6,5 +6,5 @@ pub returns-then-words-listed-clause-room : goal.returns-then-words-listed-claus
 returns-then-words-listed-clause-room g c =
     omega (arith, c.if-words-listed.true, c.list_all-listed.ensures.end, c.list_all-listed.auto.words, start-up g.B.Geometry.shape 7 11 (omega arith))
 
-pub lead_all-requires-clause-prepared : goal.lead_all-requires-clause-prepared
-lead_all-requires-clause-prepared g c = c.list_all-listed.ensures.prepared (omega (arith, c.if-words-listed.false, c.list_all-listed.auto.words))
+pub write_all-requires-clause-prepared : goal.write_all-requires-clause-prepared
+write_all-requires-clause-prepared g c = c.list_all-listed.ensures.prepared (omega (arith, c.if-words-listed.false, c.list_all-listed.auto.words))

@@ -1,7 +1,7 @@
 use Rattle.std.proofs.Common.{◌≡◌, ◌+◌, suc, ap, arith}
 use Rattle.morris_index.specs.Binomials.{choose}
 use Rattle.morris_lookup.specs.Prepared.{start_of}
-use Rattle.morris_lookup.proofs.PreparedLaws.{start-suc, size-led}
+use Rattle.morris_lookup.proofs.PreparedLaws.{start-suc, size-canonical_form}
 use Rattle.morris_lookup.proofs.prepared.prepared_count.Goals as goal
 
 pub loop-k-init : goal.loop-k-init
@@ -17,7 +17,7 @@ loop-k-preserved g c =
         c.set_count-end.ensures.value,
         ap (λ n. choose n (3 + c.loop-k.k)) g.met.B.Geometry.point_count,
         start-suc g.B.Geometry.shape (7 + c.loop-k.k),
-        size-led g.B.Geometry.shape c.loop-k.k,
+        size-canonical_form g.B.Geometry.shape c.loop-k.k,
         ap (start_of g.B.Geometry.shape) next,
       );
       few = omega (arith, c.loop-k.invariant.few, c.set_count-end.ensures.few);

@@ -1,15 +1,15 @@
 use Rattle.std.proofs.Common.{refl, ◌∙◌, arith}
 use Rattle.morris_lookup.proofs.PreparedLaws.{section_within, start-least}
 use Rattle.morris_lookup.proofs.prepared.section.Goals as goal
-use Rattle.morris_lookup.proofs.prepared.section.Goals.{then-words-lt-HEADING-via-then-words-lt-HEADING, then-words-lt-HEADING-via-else-words-lt-HEADING+then-words-from, else-start-end-via-then-start-end+else-end-words, else-start-end-via-else-start-end}
+use Rattle.morris_lookup.proofs.prepared.section.Goals.{then-words-lt-PREFACE-via-then-words-lt-PREFACE, then-words-lt-PREFACE-via-else-words-lt-PREFACE+then-words-from, else-start-end-via-then-start-end+else-end-words, else-start-end-via-else-start-end}
 
-pub returns-then-words-lt-HEADING-clause-found : goal.returns-then-words-lt-HEADING-clause-found
-returns-then-words-lt-HEADING-clause-found g c = (
+pub returns-then-words-lt-PREFACE-clause-found : goal.returns-then-words-lt-PREFACE-clause-found
+returns-then-words-lt-PREFACE-clause-found g c = (
   refl,
-  λ here. elim c.then-words-lt-HEADING.branch [
-    | then-words-lt-HEADING-via-then-words-lt-HEADING w ↦
-        absurd (omega (arith, w.if-words-lt-HEADING.true, here.whole, start-least g.B.Geometry.shape 11))
-    | then-words-lt-HEADING-via-else-words-lt-HEADING+then-words-from w ↦
+  λ here. elim c.then-words-lt-PREFACE.branch [
+    | then-words-lt-PREFACE-via-then-words-lt-PREFACE w ↦
+        absurd (omega (arith, w.if-words-lt-PREFACE.true, here.whole, start-least g.B.Geometry.shape 11))
+    | then-words-lt-PREFACE-via-else-words-lt-PREFACE+then-words-from w ↦
         w.if-words-from.true (here.first ∙ omega (arith, w.from.ensures, w.ID.ensures, g.met.B.Geometry.file_id))
   ],
 )

@@ -11,27 +11,27 @@ value_of_file-requires-clause-named g c =
     (found c.in-Some.pair (contents c.args.files.now) c.in-Some-file_of_pair.bytes.now (sym c.in-Some-file_of_pair.ensures)).0
 
 pub returns-in-None-clause-said : goal.returns-in-None-clause-said
-returns-in-None-clause-said g c = λ serve. sym (said-none g.B.Geometry.shape (contents c.args.files.now) c.args.position.now c.in-None.ensures.pair)
+returns-in-None-clause-said g c = λ lists_fit. sym (said-none g.B.Geometry.shape (contents c.args.files.now) c.args.position.now c.in-None.ensures.pair)
 
 pub returns-in-None-clause-exact : goal.returns-in-None-clause-exact
-returns-in-None-clause-exact g c = λ serve exact. lost_with_two g.B.Geometry.shape c.args.position.now (sym c.in-None.ensures.pair)
+returns-in-None-clause-exact g c = λ lists_fit exact. lost_with_two g.B.Geometry.shape c.args.position.now (sym c.in-None.ensures.pair)
 
 pub returns-in-None-clause-unready : goal.returns-in-None-clause-unready
 returns-in-None-clause-unready g c = λ needs. absurd (needs-none g.B.Geometry.shape (contents c.args.files.now) c.args.position.now c.in-None.ensures.pair needs)
 
 pub returns-in-None-file_of_pair-clause-said : goal.returns-in-None-file_of_pair-clause-said
-returns-in-None-file_of_pair-clause-said g c = λ serve.
+returns-in-None-file_of_pair-clause-said g c = λ lists_fit.
     sym (said-no_file g.B.Geometry.shape (contents c.args.files.now) c.args.position.now c.in-Some.pair c.in-Some.ensures.pair c.in-None-file_of_pair.ensures)
 
 pub returns-in-Some-file_of_pair-clause-said : goal.returns-in-Some-file_of_pair-clause-said
-returns-in-Some-file_of_pair-clause-said g c = λ serve.
+returns-in-Some-file_of_pair-clause-said g c = λ lists_fit.
     c.value_of_file.ensures.said
-    (serve c.in-Some-file_of_pair.bytes.now (found c.in-Some.pair (contents c.args.files.now) c.in-Some-file_of_pair.bytes.now (sym c.in-Some-file_of_pair.ensures)).1)
+    (lists_fit c.in-Some-file_of_pair.bytes.now (found c.in-Some.pair (contents c.args.files.now) c.in-Some-file_of_pair.bytes.now (sym c.in-Some-file_of_pair.ensures)).1)
     ∙ sym (said-file g.B.Geometry.shape (contents c.args.files.now) c.args.position.now c.in-Some.pair c.in-Some.ensures.pair c.in-Some-file_of_pair.bytes.now
     c.in-Some-file_of_pair.ensures)
 
 pub returns-in-Some-file_of_pair-clause-exact : goal.returns-in-Some-file_of_pair-clause-exact
-returns-in-Some-file_of_pair-clause-exact g c = λ serve exact.
+returns-in-Some-file_of_pair-clause-exact g c = λ lists_fit exact.
     let few : g.B.Geometry.shape.points ≤ 24 = omega (arith, g.met.B.Geometry.few, g.met.B.Geometry.point_count) in
     let there = found c.in-Some.pair (contents c.args.files.now) c.in-Some-file_of_pair.bytes.now (sym c.in-Some-file_of_pair.ensures) in
     exact_value g.B.Geometry.shape few g.met.B.Geometry.has_symmetries c.args.position.now c.own.ensures.lawful c.in-Some.pair c.in-Some.ensures.counts
@@ -39,7 +39,7 @@ returns-in-Some-file_of_pair-clause-exact g c = λ serve exact.
     (exact-file g.B.Geometry.shape (contents c.args.files.now) c.args.position.now c.in-Some.pair c.in-Some.ensures.pair c.in-Some-file_of_pair.bytes.now
     c.in-Some-file_of_pair.ensures exact)
     there.0 c.value_of_file.result
-    (c.value_of_file.ensures.said (serve c.in-Some-file_of_pair.bytes.now there.1))
+    (c.value_of_file.ensures.said (lists_fit c.in-Some-file_of_pair.bytes.now there.1))
 
 pub returns-in-Some-file_of_pair-clause-unready : goal.returns-in-Some-file_of_pair-clause-unready
 returns-in-Some-file_of_pair-clause-unready g c =

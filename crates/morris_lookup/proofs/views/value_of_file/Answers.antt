@@ -20,27 +20,27 @@ returns-in_err-greater-clause-said g c = λ serves.
     absurd (false≢true (c.in_err-greater.ensures.ready (λ classes. serves (read_by_classes g.B.Geometry.shape c.args.bytes.now c.in_ok-layout.layout c.in_ok-layout.field-0-1 c.in_ok-layout.entries c.in_ok-layout.length
     c.in_ok-layout.ensures.found classes))))
 
-pub returns-in_err-bear_out-clause-said : goal.returns-in_err-bear_out-clause-said
-returns-in_err-bear_out-clause-said g c = λ serves.
-    let failed = err_from_is_err_and c.from_residual-in_err-bear_out.result c.from_residual-in_err-bear_out.ensures.1 in
-    let right = c.in_ok-greater.ensures.serve (λ classes. serves (read_by_classes g.B.Geometry.shape c.args.bytes.now c.in_ok-layout.layout c.in_ok-layout.field-0-1 c.in_ok-layout.entries c.in_ok-layout.length
+pub returns-in_err-check_length-clause-said : goal.returns-in_err-check_length-clause-said
+returns-in_err-check_length-clause-said g c = λ serves.
+    let failed = err_from_is_err_and c.from_residual-in_err-check_length.result c.from_residual-in_err-check_length.ensures.1 in
+    let right = c.in_ok-greater.ensures.lists_fit (λ classes. serves (read_by_classes g.B.Geometry.shape c.args.bytes.now c.in_ok-layout.layout c.in_ok-layout.field-0-1 c.in_ok-layout.entries c.in_ok-layout.length
     c.in_ok-layout.ensures.found classes)) in
     rw (failed.1, failed.2)
     (said_by_kind g.B.Geometry.shape c.args.position.now c.args.bytes.now _
     (framed_not_borne g.B.Geometry.shape c.args.bytes.now (c.in_ok-layout.layout, c.args.pair) c.in_ok-layout.entries c.in_ok-layout.length
     (named_heading g.B.Geometry.shape c.args.bytes.now c.in_ok-layout.layout c.in_ok-layout.field-0-1 c.in_ok-layout.entries c.in_ok-layout.length c.in_ok-layout.ensures.found
     c.args.pair c.requires.named)
-    g.B.Geometry.POINTS g.met.B.Geometry.point_count c.count.result (c.count.ensures.value right) c.in_err-bear_out.field-0.0 c.in_err-bear_out.ensures.value))
+    g.B.Geometry.POINTS g.met.B.Geometry.point_count c.count.result (c.count.ensures.value right) c.in_err-check_length.field-0.0 c.in_err-check_length.ensures.value))
 
 pub returns-then-bytes-place-clause-said : goal.returns-then-bytes-place-clause-said
 returns-then-bytes-place-clause-said g c = λ serves.
-    let right = c.in_ok-greater.ensures.serve (λ classes. serves (read_by_classes g.B.Geometry.shape c.args.bytes.now c.in_ok-layout.layout c.in_ok-layout.field-0-1 c.in_ok-layout.entries c.in_ok-layout.length
+    let right = c.in_ok-greater.ensures.lists_fit (λ classes. serves (read_by_classes g.B.Geometry.shape c.args.bytes.now c.in_ok-layout.layout c.in_ok-layout.field-0-1 c.in_ok-layout.entries c.in_ok-layout.length
     c.in_ok-layout.ensures.found classes)) in
     let size = size_of_framed g.B.Geometry.shape c.args.bytes.now (c.in_ok-layout.layout, c.args.pair)
     (framed_found g.B.Geometry.shape c.args.bytes.now (c.in_ok-layout.layout, c.args.pair) c.in_ok-layout.entries c.in_ok-layout.length
     (named_heading g.B.Geometry.shape c.args.bytes.now c.in_ok-layout.layout c.in_ok-layout.field-0-1 c.in_ok-layout.entries c.in_ok-layout.length c.in_ok-layout.ensures.found
     c.args.pair c.requires.named)
-    g.B.Geometry.POINTS g.met.B.Geometry.point_count c.count.result (c.count.ensures.value right) c.in_ok-bear_out.field-0 c.in_ok-bear_out.ensures.value) in
+    g.B.Geometry.POINTS g.met.B.Geometry.point_count c.count.result (c.count.ensures.value right) c.in_ok-check_length.field-0 c.in_ok-check_length.ensures.value) in
     absurd (omega (
       arith,
       c.if-bytes-place.true,
@@ -52,7 +52,7 @@ returns-then-bytes-place-clause-said g c = λ serves.
 pub returns-clause-said : goal.returns-clause-said
 unfolding code_at
 returns-clause-said g c = λ serves.
-    let right = c.in_ok-greater.ensures.serve (λ classes. serves (read_by_classes g.B.Geometry.shape c.args.bytes.now c.in_ok-layout.layout c.in_ok-layout.field-0-1 c.in_ok-layout.entries c.in_ok-layout.length
+    let right = c.in_ok-greater.ensures.lists_fit (λ classes. serves (read_by_classes g.B.Geometry.shape c.args.bytes.now c.in_ok-layout.layout c.in_ok-layout.field-0-1 c.in_ok-layout.entries c.in_ok-layout.length
     c.in_ok-layout.ensures.found classes)) in
     let entry : c.entry.result ≡ entry_index g.B.Geometry.shape g.B.Geometry.shape.points c.in_ok-layout.layout c.args.pair c.args.position.now =
     c.entry.ensures.value right ∙ ap (λ n. entry_index g.B.Geometry.shape n c.in_ok-layout.layout c.args.pair c.args.position.now) (sym g.met.B.Geometry.point_count) in
@@ -63,7 +63,7 @@ returns-clause-said g c = λ serves.
     (framed_found g.B.Geometry.shape c.args.bytes.now (c.in_ok-layout.layout, c.args.pair) c.in_ok-layout.entries c.in_ok-layout.length
     (named_heading g.B.Geometry.shape c.args.bytes.now c.in_ok-layout.layout c.in_ok-layout.field-0-1 c.in_ok-layout.entries c.in_ok-layout.length c.in_ok-layout.ensures.found
     c.args.pair c.requires.named)
-    g.B.Geometry.POINTS g.met.B.Geometry.point_count c.count.result (c.count.ensures.value right) c.in_ok-bear_out.field-0 c.in_ok-bear_out.ensures.value)
+    g.B.Geometry.POINTS g.met.B.Geometry.point_count c.count.result (c.count.ensures.value right) c.in_ok-check_length.field-0 c.in_ok-check_length.ensures.value)
 
 pub returns-clause-unready : goal.returns-clause-unready
 returns-clause-unready g c = λ classes.

@@ -47,7 +47,7 @@ returns-clause-come g c =
     (rw (← stones) c.steps.ensures) in
     λ u. rw (← g.met.B.Geometry.point_count)
     (sources-steps g.B.Geometry.shape (small g) c.args.position.now c.other-other.ensures.lawful c.args.to c.requires mill c.steps.result c.vacant.result
-    c.common.result near (λ p. rw g.met.B.Geometry.point_count (c.vacant.ensures p)) c.common.ensures u)
+    c.intersection.result near (λ p. rw g.met.B.Geometry.point_count (c.vacant.ensures p)) c.intersection.ensures u)
 
 pub returns-clause-complete : goal.returns-clause-complete
 returns-clause-complete g c =

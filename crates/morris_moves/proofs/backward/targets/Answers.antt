@@ -10,5 +10,5 @@ returns g c =
     let near : IsSteps g.B.Geometry.shape (count_of c.args.position.now.other) c.args.from c.steps.result =
     steps-known g.B.Geometry.shape g.B.Geometry.POINTS (count_of c.args.position.now.other) c.args.from c.steps.result g.met.B.Geometry.point_count
     (rw (← stones) c.steps.ensures) in
-    targets-steps g.B.Geometry.shape c.args.position.now c.args.from c.steps.result c.common.result near
-    (rw (← c.requires.stones) c.common.ensures)
+    targets-steps g.B.Geometry.shape c.args.position.now c.args.from c.steps.result c.intersection.result near
+    (rw (← c.requires.stones) c.intersection.ensures)

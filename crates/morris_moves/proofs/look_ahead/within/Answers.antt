@@ -1,7 +1,7 @@
 use Rattle.std.proofs.Common.{◌≤◌, sym, ◌∙◌, arith}
 use Rattle.morris_moves.specs.Values.{IsOpen}
 use borrow.Author.Count.{below_more}
-use Rattle.morris_moves.specs.declared.search.Within.TheVariants.{Lost, Won, Unknown}
+use Rattle.morris_moves.specs.declared.within.Within.TheVariants.{Lost, Won, Unknown}
 use Rattle.morris_moves.proofs.ValueLaws.{open_even, open_odd, answer_lost, answer_won}
 use Rattle.morris_moves.proofs.SymmetryLaws.{IsImage-value, IsImage-answer}
 use Rattle.morris_moves.proofs.look_ahead.within.Given as given

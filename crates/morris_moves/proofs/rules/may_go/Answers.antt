@@ -8,13 +8,13 @@ use Rattle.morris_moves.proofs.rules.may_go.Goals as goal
 pub returns-then-has : goal.returns-then-has
 returns-then-has g c =
     let stands : (has c.args.position.now.own c.args.to || has c.args.position.now.other c.args.to) ≡ true =
-    rw (← c.own-own.ensures.points, ← c.other.ensures.points) (sym (c.joined.ensures c.args.to) ∙ (sym c.has.ensures ∙ c.if-has.true)) in
+    rw (← c.own-own.ensures.points, ← c.other.ensures.points) (sym (c.union.ensures c.args.to) ∙ (sym c.has.ensures ∙ c.if-has.true)) in
     sym (may_go-not g.B.Geometry.shape c.args.position.now c.args.from c.args.to (ap not stands))
 
 pub returns : goal.returns
 returns g c =
     let stands : (has c.args.position.now.own c.args.to || has c.args.position.now.other c.args.to) ≡ false =
-    rw (← c.own-own.ensures.points, ← c.other.ensures.points) (sym (c.joined.ensures c.args.to) ∙ (sym c.has.ensures ∙ c.if-has.false)) in
+    rw (← c.own-own.ensures.points, ← c.other.ensures.points) (sym (c.union.ensures c.args.to) ∙ (sym c.has.ensures ∙ c.if-has.false)) in
     let stones : c.count.result ≡ count_of c.args.position.now.own = c.count.ensures.value ∙ ap count_of c.own-own.ensures.points in
     let goes : has c.steps.result c.args.to ≡ goes g.B.Geometry.shape (count_of c.args.position.now.own) c.args.from c.args.to =
     rw (← stones) (c.steps.ensures c.args.to

@@ -9,5 +9,5 @@ returns g c =
     let near : IsSteps g.B.Geometry.shape (count_of c.args.position.now.own) c.args.from c.steps.result =
     steps-known g.B.Geometry.shape g.B.Geometry.POINTS (count_of c.args.position.now.own) c.args.from c.steps.result g.met.B.Geometry.point_count
     (rw (← stones) c.steps.ensures) in
-    reach-steps g.B.Geometry.shape c.args.position.now c.args.from c.steps.result c.vacant.result c.common.result near
-    (λ p. rw g.met.B.Geometry.point_count (c.vacant.ensures p)) c.common.ensures
+    reach-steps g.B.Geometry.shape c.args.position.now c.args.from c.steps.result c.vacant.result c.intersection.result near
+    (λ p. rw g.met.B.Geometry.point_count (c.vacant.ensures p)) c.intersection.ensures

@@ -2,7 +2,7 @@ use Rattle.std.proofs.Common.{◌≡◌, ℕ, List, true, false, max, None, sym,
 use Rattle.morris_board.specs.Sets.{has, members}
 use Rattle.morris_moves.specs.Rules.{closes, reach, move}
 use Rattle.morris_moves.proofs.LegalLaws.{reached}
-use Rattle.morris_pairs.specs.Worths.{best_of, worth}
+use Rattle.morris_pairs.specs.Scores.{best_of, score}
 use Rattle.morris_pairs.proofs.AgreementLaws.{quiet_listed, stated_at, quiet_codes-none, codes_to, codes_to-closing, codes_to-quiet, codes_to-all}
 use Rattle.morris_pairs.proofs.BackLawsLoops.{end_of, next_points, none_left}
 use Rattle.morris_pairs.proofs.CaptureLaws.{quiet_elsewhere}
@@ -59,7 +59,7 @@ loop-to-preserved-in-loop-to g c =
     record {
       points = next_points c.loop-to.yielded v _ _ _ c.loop-to.invariant.points c.in-Some.ensures.steps;
       best = c.max-best.ensures
-          ∙ ap₂ max c.loop-to.invariant.best (c.worth.ensures ∙ ap worth stated)
+          ∙ ap₂ max c.loop-to.invariant.best (c.score.ensures ∙ ap score stated)
           ∙ sym (best_of-more c.args.known (codes_to b t s u c.loop-to.yielded) _)
           ∙ ap (best_of c.args.known) (sym (codes_to-quiet b t s u c.loop-to.yielded v (quiet g at.Joined-then-not-has (here g at.In-Some))));
     }

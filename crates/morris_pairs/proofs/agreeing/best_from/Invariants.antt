@@ -1,7 +1,7 @@
 use Rattle.std.proofs.Common.{◌≡◌, ◌++◌}
 use Rattle.morris_board.specs.Sets.{members}
 use Rattle.morris_moves.specs.Rules.{reach}
-use Rattle.morris_pairs.specs.Worths.{best_of}
+use Rattle.morris_pairs.specs.Scores.{best_of}
 use Rattle.morris_pairs.proofs.AgreementLaws.{codes_to}
 use Rattle.morris_pairs.proofs.agreeing.best_from.Given as goal
 

@@ -34,18 +34,18 @@ loop-index-init g c =
 pub exits_by_row-captures-requires-clause-counts : goal.exits_by_row-captures-requires-clause-counts
 exits_by_row-captures-requires-clause-counts g c = subst (λ d. is_of d c.loop-index.position ≡ true) (sym c.requires.pair) c.loop-index.invariant.counts
 
-pub following-position-requires-clause-counts : goal.following-position-requires-clause-counts
-following-position-requires-clause-counts g c = rw c.numbering-numbering.ensures.pair c.loop-index.invariant.counts
+pub next_position-position-requires-clause-counts : goal.next_position-position-requires-clause-counts
+next_position-position-requires-clause-counts g c = rw c.numbering-numbering.ensures.pair c.loop-index.invariant.counts
 
-pub following-position-requires-clause-own : goal.following-position-requires-clause-own
-following-position-requires-clause-own g c = rw c.numbering-numbering.ensures.layout c.loop-index.invariant.own
+pub next_position-position-requires-clause-own : goal.next_position-position-requires-clause-own
+next_position-position-requires-clause-own g c = rw c.numbering-numbering.ensures.layout c.loop-index.invariant.own
 
-pub following-position-requires-clause-before : goal.following-position-requires-clause-before
-following-position-requires-clause-before g c =
+pub next_position-position-requires-clause-before : goal.next_position-position-requires-clause-before
+next_position-position-requires-clause-before g c =
     rw (c.numbering-numbering.ensures.layout, c.numbering-numbering.ensures.pair) (ap (λ k. k + 1) (c.loop-index.invariant.at c.loop-index-test.true))
 
-pub following-position-requires-clause-inside : goal.following-position-requires-clause-inside
-following-position-requires-clause-inside g c =
+pub next_position-position-requires-clause-inside : goal.next_position-position-requires-clause-inside
+next_position-position-requires-clause-inside g c =
     rw (c.numbering-numbering.ensures.layout, c.numbering-numbering.ensures.pair) (omega (arith, c.requires.inside, c.if-index-end.true))
 
 pub loop-index-preserved : goal.loop-index-preserved
@@ -58,10 +58,10 @@ loop-index-preserved g c =
     more (Agrees g.B.Geometry.shape t) c.args.first c.loop-index.index inv.agreed (c.agrees.ensures.0 c.if-not-agrees.false) in
     elim c.if-index-end.branch [
       | then-index-end w ↦ rw (w.position-is, w.row-is) (record {
-        at = λ _. rw (layout, pair) at w.following-position.ensures.entry;
-        counts = rw pair at w.following-position.ensures.counts;
-        lawful = w.following-position.ensures.lawful;
-        own = rw layout at w.following-position.ensures.own;
+        at = λ _. rw (layout, pair) at w.next_position-position.ensures.entry;
+        counts = rw pair at w.next_position-position.ensures.counts;
+        lawful = w.next_position-position.ensures.lawful;
+        own = rw layout at w.next_position-position.ensures.own;
         row = w.follow.ensures.row;
         same = w.follow.ensures.own;
         agreed = agreed;

@@ -2,7 +2,7 @@ use Rattle.std.proofs.Common.{◌≡◌, false, [], sym, ap, ◌∙◌, arith}
 use Rattle.morris_board.specs.Boards.{Shape}
 use Rattle.morris_board.specs.Sets.{has, without_point}
 use Rattle.morris_wave.specs.Exits.{exits_of}
-use Rattle.morris_pairs.specs.KeptCaptures.{codes_left}
+use Rattle.morris_pairs.specs.CaptureCaches.{codes_left}
 use Rattle.morris_pairs.proofs.CapturedLaws.{taken_in}
 use Rattle.morris_pairs.proofs.GraphLaws.{exits_by-none}
 use Rattle.morris_pairs.proofs.KeptLaws.{some_left, left_tells}
@@ -29,7 +29,7 @@ pub returns-in-Some-clause-value : goal.returns-in-Some-clause-value
 returns-in-Some-clause-value g c =
     let b : Shape = g.B.Geometry.shape in
     let apart : has c.args.row.now.closing c.args.taken ≡ false = cc in
-    c.in-Some.ensures (codes_left b) c.requires.kept
+    c.in-Some.ensures (codes_left b) c.requires.cache
     ∙ (ap (λ own. exits_of (codes_left b own c.without-left.result)) c.requires.own
     ∙ (ap (λ left. exits_of (codes_left b c.args.position.now.own left)) (c.without-left.ensures ∙ ap (λ o. without_point o c.args.taken) c.other.ensures.points)
     ∙ sym (left_tells b g.B.Geometry.POINTS g.met.B.Geometry.point_count g.met.B.Geometry.few c.args.position.now c.requires.lawful
@@ -38,11 +38,11 @@ returns-in-Some-clause-value g c =
 pub returns-clause-value : goal.returns-clause-value
 returns-clause-value g c = c.with_captures-results.ensures [] (sym (exits_by-none g.B.Geometry.shape c.args.position.now))
 
-pub returns-clause-kept : goal.returns-clause-kept
-returns-clause-kept g c =
+pub returns-clause-cache : goal.returns-clause-cache
+returns-clause-cache g c =
     let b : Shape = g.B.Geometry.shape in
     let apart : has c.args.row.now.closing c.args.taken ≡ false = cc in
-    c.put.ensures (codes_left b) c.requires.kept
+    c.put.ensures (codes_left b) c.requires.cache
     (c.with_captures-results.ensures [] (sym (exits_by-none b c.args.position.now))
     ∙ (left_tells b g.B.Geometry.POINTS g.met.B.Geometry.point_count g.met.B.Geometry.few c.args.position.now c.requires.lawful
     c.args.taken c.args.row.now c.requires.own c.requires.row apart c.args.ends c.requires.ends

@@ -1,9 +1,9 @@
 use Rattle.std.proofs.Common.{◌≡◌, ◌++◌, true, List, slice_index, sym, ap, subst, ◌∙◌, arith}
 use Rattle.morris_board.specs.Sets.{has, members, count_of, without_point}
-use Rattle.morris_moves.specs.declared.step.Move.{Move}
+use Rattle.morris_moves.specs.declared.game_move.Move.{Move}
 use Rattle.morris_pairs.specs.Captured.{IsStandingIn, IsLeft, captures_at, captures_to}
 use Rattle.morris_pairs.specs.Graphs.{exits_by}
-use Rattle.morris_pairs.specs.KeptCaptures.{open_ends}
+use Rattle.morris_pairs.specs.CaptureCaches.{open_ends}
 use Rattle.morris_pairs.proofs.BackLawsLoops.{end_of, next_points, none_left}
 use Rattle.morris_pairs.proofs.CaptureLaws.{GoesOn, goes_none, goes_more, open_low, closers_close}
 use Rattle.morris_pairs.proofs.CapturedLaws.{taken_in, left_within, left_counts}

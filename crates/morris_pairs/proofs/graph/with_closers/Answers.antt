@@ -11,15 +11,15 @@ use Rattle.morris_pairs.proofs.CaptureLaws.{GoesOn, goes_none, goes_capture}
 use Rattle.morris_pairs.proofs.CapturedLaws.{left_stands, led_to, left_code}
 use Rattle.morris_pairs.proofs.graph.with_closers.Given as given
 use Rattle.morris_pairs.proofs.graph.with_closers.Goals as goal
-use Rattle.morris_pairs.proofs.graph.with_closers.Goals.{In-Some, After-with-facing}
+use Rattle.morris_pairs.proofs.graph.with_closers.Goals.{In-Some, After-with-opponent_set}
 
 -- the stone closes a mill
 closing : (g : given.Over) (c : In-Some g) → IsClosing g.B.Geometry.shape c.args.position.now c.in-Some.from c.args.to
 closing g c =
     c.requires.closers c.in-Some.from (end_of c.args.closers c.in-Some.from c.loop-from.yielded _ _ c.loop-from.invariant.points c.in-Some.ensures.steps)
 
-facing : (g : given.Over) (c : After-with-facing g) → c.with-facing.result ≡ with_point (without_point c.args.position.now.own c.in-Some.from) c.args.to
-facing g c = c.with-facing.ensures ∙ ap (λ o. with_point o c.args.to) (c.without.ensures ∙ ap (λ o. without_point o c.in-Some.from) c.own-own.ensures.points)
+opponent_set : (g : given.Over) (c : After-with-opponent_set g) → c.with-opponent_set.result ≡ with_point (without_point c.args.position.now.own c.in-Some.from) c.args.to
+opponent_set g c = c.with-opponent_set.ensures ∙ ap (λ o. with_point o c.args.to) (c.without.ensures ∙ ap (λ o. without_point o c.in-Some.from) c.own-own.ensures.points)
 
 -- a closing move goes from a point of the board to another
 module _ (b : Shape) (n : ℕ) (points : b.points ≡ n) (s : Sides) (lawful : IsPosition b s) (u v : ℕ) (closing : IsClosing b s u v) where
@@ -39,21 +39,21 @@ pub without-requires : goal.without-requires
 without-requires g c =
     omega (arith, g.met.B.Geometry.few, from_low g.B.Geometry.shape g.B.Geometry.POINTS g.met.B.Geometry.point_count c.args.position.now c.requires.lawful c.in-Some.from c.args.to (closing g (goal.at.without-requires g c).In-Some))
 
-pub with-facing-requires : goal.with-facing-requires
-with-facing-requires g c =
-    omega (arith, g.met.B.Geometry.few, to_low g.B.Geometry.shape g.B.Geometry.POINTS g.met.B.Geometry.point_count c.args.position.now c.requires.lawful c.in-Some.from c.args.to (closing g (goal.at.with-facing-requires g c).In-Some))
+pub with-opponent_set-requires : goal.with-opponent_set-requires
+with-opponent_set-requires g c =
+    omega (arith, g.met.B.Geometry.few, to_low g.B.Geometry.shape g.B.Geometry.POINTS g.met.B.Geometry.point_count c.args.position.now c.requires.lawful c.in-Some.from c.args.to (closing g (goal.at.with-opponent_set-requires g c).In-Some))
 
 pub code_at-requires-clause-stands : goal.code_at-requires-clause-stands
 code_at-requires-clause-stands g c =
     let at = goal.at.code_at-requires-clause-stands g c in
     left_stands g.B.Geometry.shape g.B.Geometry.POINTS g.met.B.Geometry.point_count g.met.B.Geometry.few c.args.position.now c.requires.lawful c.requires.standing.0
-    c.requires.standing.1.takes c.args.table.now c.requires.table c.args.standing.now c.requires.standing.1 c.in-Some.from c.args.to (closing g at.In-Some) c.with-facing.result (facing g at.After-with-facing)
+    c.requires.standing.1.takes c.args.table.now c.requires.table c.args.standing.now c.requires.standing.1 c.in-Some.from c.args.to (closing g at.In-Some) c.with-opponent_set.result (opponent_set g at.After-with-opponent_set)
 
 pub code_at-requires-clause-lawful : goal.code_at-requires-clause-lawful
 code_at-requires-clause-lawful g c =
     let at = goal.at.code_at-requires-clause-lawful g c in
     led_to g.B.Geometry.shape g.B.Geometry.POINTS g.met.B.Geometry.point_count g.met.B.Geometry.few c.args.position.now c.requires.lawful c.requires.standing.0
-    c.requires.standing.1.takes c.args.table.now c.requires.table c.args.standing.now c.requires.standing.1 c.in-Some.from c.args.to (closing g at.In-Some) c.with-facing.result (facing g at.After-with-facing)
+    c.requires.standing.1.takes c.args.table.now c.requires.table c.args.standing.now c.requires.standing.1 c.in-Some.from c.args.to (closing g at.In-Some) c.with-opponent_set.result (opponent_set g at.After-with-opponent_set)
 
 pub loop-from-preserved : goal.loop-from-preserved
 loop-from-preserved g c =
@@ -63,7 +63,7 @@ loop-from-preserved g c =
       summed = λ taken left. rw c.with-exits.ensures.value (goes_capture g.B.Geometry.shape c.args.position.now c.args.known c.loop-from.exits c.in-Some.from c.args.to taken
           c.code_at.result c.loop-from.yielded (c.loop-from.invariant.summed taken left)
           (left_code g.B.Geometry.shape g.B.Geometry.POINTS g.met.B.Geometry.point_count g.met.B.Geometry.few c.args.position.now c.requires.lawful taken
-          left.takes c.args.table.now c.requires.table c.args.standing.now left c.in-Some.from c.args.to (closing g at.In-Some) c.with-facing.result (facing g at.After-with-facing)
+          left.takes c.args.table.now c.requires.table c.args.standing.now left c.in-Some.from c.args.to (closing g at.In-Some) c.with-opponent_set.result (opponent_set g at.After-with-opponent_set)
           c.code_at.result c.code_at.ensures)
           (omega (arith, c.code_at.type_inv)));
     }

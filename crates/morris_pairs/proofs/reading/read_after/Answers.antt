@@ -12,7 +12,7 @@ use Rattle.morris_pairs.specs.Entries.{entry_count}
 use Rattle.morris_pairs.specs.Numberings.{layout_of, pair_of}
 use Rattle.morris_pairs.specs.Tables.{Table, table}
 use Rattle.morris_pairs.specs.TableFiles.{code_bytes, file_of}
-use Rattle.morris_pairs.specs.FileReading.{body_length, file_in, header_in, header_at, heading_in, Reads, IsHeadingRefusal}
+use Rattle.morris_pairs.specs.FileReading.{body_length, file_in, header_in, header_at, check_header, Reads, IsHeaderRefusal}
 use Rattle.morris_pairs.specs.declared.file_faults.ReadFault.{ReadFault}
 use Rattle.morris_pairs.specs.declared.file_faults.ReadFault.TheVariants as fault
 use Rattle.morris_pairs.proofs.FileLaws.{length-code_bytes, unless-true, unless-false, file_of-read}
@@ -26,8 +26,8 @@ use Rattle.morris_pairs.proofs.reading.read_after.Goals.{After-count, After-fina
 abbrev kind_named : (g : given.Over) (c : After-count g) → Layout × Counts
 kind_named g c = (layout_of c.in_ok-numbering.numbering, pair_of c.in_ok-numbering.numbering)
 
-named : (g : given.Over) (c : After-count g) → heading_in g.B.Geometry.shape (header_at c.args.header.now) ≡ Ok (kind_named g c)
-named g c = ap (heading_in g.B.Geometry.shape) (sym c.from_bytes.ensures) ∙ c.in_ok-numbering.ensures.found
+named : (g : given.Over) (c : After-count g) → check_header g.B.Geometry.shape (header_at c.args.header.now) ≡ Ok (kind_named g c)
+named g c = ap (check_header g.B.Geometry.shape) (sym c.from_bytes.ensures) ∙ c.in_ok-numbering.ensures.found
 
 sized : (g : given.Over) (c : After-count g) → c.count.result ≡ entry_count g.B.Geometry.shape g.B.Geometry.shape.points (kind_named g c).0 (kind_named g c).1
 sized g c = c.count.ensures.value ∙ ap (λ n. entry_count g.B.Geometry.shape n (kind_named g c).0 (kind_named g c).1) (sym g.met.B.Geometry.point_count)
@@ -42,7 +42,7 @@ right g c =
 
 -- a heading that is refused refuses the file
 refused_heading : (board : Shape) (header : List ℕ) → length header ≡ 16 → (old new : Option (List ℕ)) (refusal : ReadFault)
-    → IsHeadingRefusal board (header_at header) refusal → Reads {A = Table} (λ bytes. file_in board (header ++ bytes)) old new (Err refusal)
+    → IsHeaderRefusal board (header_at header) refusal → Reads {A = Table} (λ bytes. file_in board (header ++ bytes)) old new (Err refusal)
 refused_heading board header long None new refusal why = tt
 refused_heading board header long (Some bytes) new fault.Memory why = tt
 refused_heading board header long (Some bytes) new fault.Read why = tt
@@ -63,7 +63,7 @@ returns-in_err-numbering-clause-outcome g c =
     let header = c.args.header.now in
     rw (failed.1, failed.2)
     (refused_heading board header c.told-header (g.S.Source.remaining c.args.source.now) (g.S.Source.remaining c.args.source.now) c.in_err-numbering.field-0.0
-    (subst (λ h. IsHeadingRefusal board h c.in_err-numbering.field-0.0) c.from_bytes.ensures c.in_err-numbering.ensures.refused))
+    (subst (λ h. IsHeaderRefusal board h c.in_err-numbering.field-0.0) c.from_bytes.ensures c.in_err-numbering.ensures.refused))
 
 pub returns-in_err-codes-clause-outcome : goal.returns-in_err-codes-clause-outcome
 returns-in_err-codes-clause-outcome g c =

@@ -15,7 +15,7 @@ loop-buffer-init g c =
     record {
       within = omega (arith, c.in_ok-codes.ensures.len);
       room = omega (arith, c.in_ok-codes.ensures.capacity);
-      kept = refl;
+      cache = refl;
       consumed = rw none (Consumes-nil (g.S.Source.remaining c.args.source.now));
       small = λ i. rw none (omega arith);
       hashed = λ before h. rw none (simp append-nil h);
@@ -24,16 +24,16 @@ loop-buffer-init g c =
 
 pub loop-buffer-preserved : goal.loop-buffer-preserved
 loop-buffer-preserved g c =
-    let piece = c.read_whole.new.buffer in
-    let size : length piece ≡ c.min-wanted.result = omega (arith, c.read_whole.auto.buffer, length-take c.min-wanted.result c.loop-buffer.buffer) in
-    let joined : code_bytes c.push_codes.new.codes.items ≡ code_bytes c.loop-buffer.codes.items ++ piece = c.push_codes.ensures.bytes in
+    let chunk = c.read_whole.new.buffer in
+    let size : length chunk ≡ c.min-wanted.result = omega (arith, c.read_whole.auto.buffer, length-take c.min-wanted.result c.loop-buffer.buffer) in
+    let joined : code_bytes c.push_codes.new.codes.items ≡ code_bytes c.loop-buffer.codes.items ++ chunk = c.push_codes.ensures.bytes in
     record {
       within = omega (arith, c.push_codes.ensures.len, size, c.min-wanted.ensures);
       room = omega (arith, c.push_codes.ensures.capacity, c.loop-buffer.invariant.room);
-      kept = c.push_codes.ensures.capacity ∙ c.loop-buffer.invariant.kept;
+      cache = c.push_codes.ensures.capacity ∙ c.loop-buffer.invariant.cache;
       consumed = rw joined (Consumes-trans _ _ _ _ _ c.loop-buffer.invariant.consumed c.in_ok-read_whole.ensures.bytes);
       small = c.push_codes.ensures.small c.loop-buffer.invariant.small;
-      hashed = λ before h. rw joined (rw (← append_assoc before (code_bytes c.loop-buffer.codes.items) piece)
+      hashed = λ before h. rw joined (rw (← append_assoc before (code_bytes c.loop-buffer.codes.items) chunk)
           (c.update.ensures (before ++ code_bytes c.loop-buffer.codes.items) (c.loop-buffer.invariant.hashed before h)));
       uncounted = c.in_ok-read_whole.ensures.counted ∙ c.loop-buffer.invariant.uncounted;
     }

@@ -10,7 +10,7 @@ abbrev pub invariant-loop-buffer : goal.invariant-loop-buffer
 invariant-loop-buffer g l = record {
   within : vec_len l.codes ≤ l.count;
   room : l.count ≤ vec_capacity l.codes;
-  kept : vec_capacity l.codes ≡ vec_capacity l.initial.codes;
+  cache : vec_capacity l.codes ≡ vec_capacity l.initial.codes;
   small : (i : ℕ) → slice_index l.codes.items i ≤ 65535;
   consumed : Consumes (g.S.Source.remaining l.fn.source) (g.S.Source.remaining l.source) (code_bytes l.codes.items);
   hashed : (before : List ℕ) → Holds256 l.fn.hasher before → Holds256 l.hasher (before ++ code_bytes l.codes.items);

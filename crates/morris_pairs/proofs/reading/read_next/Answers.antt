@@ -8,7 +8,7 @@ use Rattle.morris_pairs.specs.Tables.{Table}
 use Rattle.morris_pairs.specs.FileReading.{file_in, next_file_in}
 use Rattle.morris_pairs.specs.declared.file_faults.ReadFault.TheVariants as fault
 use Rattle.morris_pairs.proofs.ReadingLaws.{reads_failed, counts_after, counts_failed, reads_none, reads_end, reads_on_err, reads_on_ok, may_take, next_file_in-short, next_file_in-err, next_file_in-ok}
-use Rattle.morris_pairs.proofs.PlaceLaws.{stands-behind, stands-short, stands-take}
+use Rattle.morris_pairs.proofs.PlaceLaws.{stands-second_half, stands-short, stands-take}
 use Rattle.morris_pairs.proofs.AcceptLaws.{accepts_next}
 use Rattle.morris_pairs.proofs.reading.read_next.Goals as goal
 
@@ -68,7 +68,7 @@ returns-in_err-read_after-clause-place g c =
     let long : length header ≡ 16 = omega (arith, c.fill.auto.buffer) in
     let all : take c.in_ok-count.count header ≡ header = take_all c.in_ok-count.count header (omega arith) in
     let read = subst (Consumes (g.S.Source.remaining c.args.source.now) (g.S.Source.remaining c.fill.new.source)) all c.in_ok-count.ensures.bytes in
-    stands-behind g.B.Geometry.shape 0 header long (g.S.Source.remaining c.args.source.now) (g.S.Source.remaining c.fill.new.source)
+    stands-second_half g.B.Geometry.shape 0 header long (g.S.Source.remaining c.args.source.now) (g.S.Source.remaining c.fill.new.source)
     (g.S.Source.remaining c.read_after.new.source) read c.in_err-read_after.ensures.place
 
 pub returns-clause-place : goal.returns-clause-place
@@ -77,7 +77,7 @@ returns-clause-place g c =
     let long : length header ≡ 16 = omega (arith, c.fill.auto.buffer) in
     let all : take c.in_ok-count.count header ≡ header = take_all c.in_ok-count.count header (omega arith) in
     let read = subst (Consumes (g.S.Source.remaining c.args.source.now) (g.S.Source.remaining c.fill.new.source)) all c.in_ok-count.ensures.bytes in
-    stands-behind g.B.Geometry.shape 0 header long (g.S.Source.remaining c.args.source.now) (g.S.Source.remaining c.fill.new.source)
+    stands-second_half g.B.Geometry.shape 0 header long (g.S.Source.remaining c.args.source.now) (g.S.Source.remaining c.fill.new.source)
     (g.S.Source.remaining c.read_after.new.source) read c.in_ok-read_after.ensures.place
 
 pub returns-in_err-count-clause-complete : goal.returns-in_err-count-clause-complete

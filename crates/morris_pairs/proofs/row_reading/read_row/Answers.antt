@@ -6,11 +6,11 @@ use Rattle.morris_board.specs.Positions.{Sides}
 use Rattle.morris_board.specs.Symmetries.{HasSymmetries}
 use Rattle.morris_moves.specs.Rules.{moves_of}
 use Rattle.morris_index.specs.Classes.{representative_of}
-use Rattle.morris_index.specs.ClassPairs.{led}
+use Rattle.morris_index.specs.ClassPairs.{canonical_form}
 use Rattle.morris_index.specs.EntryRows.{InRow, IsInRow}
 use Rattle.morris_index.specs.Pairs.{Counts, IsPair, is_of}
-use Rattle.morris_index.proofs.ClassPairLaws.{led_itself}
-use Rattle.morris_wave.specs.declared.network.Exits.{Exits}
+use Rattle.morris_index.proofs.ClassPairLaws.{canonical_itself}
+use Rattle.morris_wave.specs.declared.graph.Exits.{Exits}
 use Rattle.morris_wave.specs.Exits.{exits_of, no_exits}
 use Rattle.morris_wave.specs.Solving.{exits_at}
 use Rattle.morris_pairs.specs.declared.layout.Layout.TheVariants.{Classes}
@@ -47,17 +47,17 @@ module _ (b : Shape) (board : is_board b ≡ true) (y : HasSymmetries b) (n : �
   exits_there : exits_of (capture_codes b s) ≡ exits_of ((net_at b (level_of Classes c)).exits (row.first + place))
   exits_there = exits_same b board y n points (order_of Classes) c pair_here s at.lawful counts_here own_entry (row.first + place) entry_here
 
-  led_there : n ≤ 24 → led b s ≡ s
-  led_there low =
-      led_itself b n low points y s.own s.other (subst (λ m. s.own < 2 ^ m) points at.lawful.stones.own_within)
+  canonical_there : n ≤ 24 → canonical_form b s ≡ s
+  canonical_there low =
+      canonical_itself b n low points y s.own s.other (subst (λ m. s.own < 2 ^ m) points at.lawful.stones.own_within)
       (subst (λ m. s.other < 2 ^ m) points at.lawful.stones.other_within) (rw at.own least)
 
 -- entries that are right up to a place, where that is written twice
-written_twice : (f : ℕ → Exits) (kept : List Exits) (k : ℕ) (x y : Exits) → k < length kept → y ≡ f k → ((v : ℕ) → v < k → exits_at kept v ≡ f v)
-    → (v : ℕ) → v < k + 1 → exits_at (slice_set (slice_set kept k x) k y) v ≡ f v
-written_twice f kept k x y inside is before =
-    exits_more f (slice_set kept k x) k y (omega (arith, length-set kept k x)) is
-    (λ v h. get_or-set_other kept k v x no_exits (λ e. omega arith) ∙ before v h)
+written_twice : (f : ℕ → Exits) (cache : List Exits) (k : ℕ) (x y : Exits) → k < length cache → y ≡ f k → ((v : ℕ) → v < k → exits_at cache v ≡ f v)
+    → (v : ℕ) → v < k + 1 → exits_at (slice_set (slice_set cache k x) k y) v ≡ f v
+written_twice f cache k x y inside is before =
+    exits_more f (slice_set cache k x) k y (omega (arith, length-set cache k x)) is
+    (λ v h. get_or-set_other cache k v x no_exits (λ e. omega arith) ∙ before v h)
 
 pub loop-place-preserved : goal.loop-place-preserved
 loop-place-preserved g c =
@@ -82,19 +82,19 @@ loop-place-preserved g c =
       counts_len = length-set c.loop-place.counts c.loop-place.place c.quiet_moves.result ∙ inv.counts_len;
       exits_len = c.if-may_capture.auto.exits ∙ (length-set c.loop-place.exits c.loop-place.place no_exits ∙ inv.exits_len);
       quiet = each_more (λ k. length (net.quiet (c.args.entries.now.first + k))) c.loop-place.counts c.loop-place.place c.quiet_moves.result inside quiet_here inv.quiet;
-      kept = elim c.if-may_capture.branch [
-        | then-may_capture w ↦ rw w.kept-is w.exits_by_kept.ensures.kept
-        | else-may_capture w ↦ rw w.kept-is inv.kept
+      cache = elim c.if-may_capture.branch [
+        | then-may_capture w ↦ rw w.cache-is w.exits_with_cache.ensures.cache
+        | else-may_capture w ↦ rw w.cache-is inv.cache
       ];
       outside = elim c.if-may_capture.branch [
         | then-may_capture w ↦
             let same : w.position.result ≡ s =
-            w.position.ensures.led s at.lawful at.counts at.entry
-            ∙ led_there b g.met.B.Geometry.is_lawful g.met.B.Geometry.has_symmetries g.B.Geometry.POINTS g.met.B.Geometry.point_count
+            w.position.ensures.canonical_form s at.lawful at.counts at.entry
+            ∙ canonical_there b g.met.B.Geometry.is_lawful g.met.B.Geometry.has_symmetries g.B.Geometry.POINTS g.met.B.Geometry.point_count
             c.args.graph.now c.requires.lawful c.args.entries.now c.requires.pair c.own.ensures.least c.loop-place.place s at (omega (arith, g.met.B.Geometry.few)) in
             rw w.exits-is
-            (written_twice (λ k. exits_of (net.exits (c.args.entries.now.first + k))) c.loop-place.exits c.loop-place.place no_exits w.exits_by_kept.result room
-            (w.exits_by_kept.ensures.value ∙ (ap (λ (t : Sides). exits_of (capture_codes b t)) same ∙ entry)) inv.outside)
+            (written_twice (λ k. exits_of (net.exits (c.args.entries.now.first + k))) c.loop-place.exits c.loop-place.place no_exits w.exits_with_cache.result room
+            (w.exits_with_cache.ensures.value ∙ (ap (λ (t : Sides). exits_of (capture_codes b t)) same ∙ entry)) inv.outside)
         | else-may_capture w ↦
             rw w.exits-is
             (exits_more (λ k. exits_of (net.exits (c.args.entries.now.first + k))) c.loop-place.exits c.loop-place.place no_exits room

@@ -27,7 +27,7 @@ loop-done-preserved g c =
       exits_len =
           same_len_mid c.loop-done.done (length c.loop-done.exits - c.loop-done.done) c.loop-done.exits c.read_row-done.new.exits c.read_row-done.auto.exits
           ∙ inv.exits_len;
-      kept = c.read_row-done.ensures.kept;
+      cache = c.read_row-done.ensures.cache;
       quiet = part_read 0 (λ k. length (net.quiet (c.args.first + k))) c.loop-done.counts c.read_row-done.new.counts c.loop-done.done c.read_row-done.result _
           inv.within many inv.quiet (λ v h. c.read_row-done.ensures.counts v h ∙ ap (λ i. length (net.quiet i)) (entry v));
       outside = part_read no_exits (λ k. exits_of (net.exits (c.args.first + k))) c.loop-done.exits c.read_row-done.new.exits c.loop-done.done c.read_row-done.result _

@@ -6,7 +6,7 @@ use Rattle.morris_pairs.proofs.rows.comers.Goals as goal
 
 pub returns-then-stones-gt3 : goal.returns-then-stones-gt3
 returns-then-stones-gt3 g c = λ u.
-    c.common.ensures u
+    c.intersection.ensures u
     ∙ (ap (λ s. has c.args.own u && has s u) c.neighbours.ensures
     ∙ comers-slide g.B.Geometry.shape c.args.own c.args.to g.B.Geometry.POINTS g.met.B.Geometry.point_count c.requires.within
     (lt-ltb 3 (count_of c.args.own) (omega (arith, c.count-stones.ensures.value, c.if-stones-gt3.true))) u)

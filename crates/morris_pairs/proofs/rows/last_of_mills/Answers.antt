@@ -13,10 +13,10 @@ loop-number-preserved g c =
     let mills = mills_of g.B.Geometry.shape in
     let inside : c.loop-number.number < length mills = omega (arith, g.met.B.Geometry.mill_count, c.MILLS-number-end.ensures, c.loop-number-test.true) in
     elim c.if-eq.branch [
-      | then-eq w ↦ rw w.last-is (last-more c.args.own c.mill.result c.less-missing.result (omega arith) c.less-missing.ensures
-          mills c.loop-number.number inside (sym c.mill.ensures) c.loop-number.last c.loop-number.invariant w.joined-last.result w.joined-last.ensures)
-      | else-eq w ↦ rw w.last-is (last-same c.args.own c.mill.result c.less-missing.result (omega arith) c.less-missing.ensures
-          mills c.loop-number.number inside (sym c.mill.ensures) c.loop-number.last c.loop-number.invariant c.rest.result (omega arith) c.rest.ensures
+      | then-eq w ↦ rw w.last-is (last-more c.args.own c.mill.result c.difference-missing.result (omega arith) c.difference-missing.ensures
+          mills c.loop-number.number inside (sym c.mill.ensures) c.loop-number.last c.loop-number.invariant w.union-last.result w.union-last.ensures)
+      | else-eq w ↦ rw w.last-is (last-same c.args.own c.mill.result c.difference-missing.result (omega arith) c.difference-missing.ensures
+          mills c.loop-number.number inside (sym c.mill.ensures) c.loop-number.last c.loop-number.invariant c.without_first.result (omega arith) c.without_first.ensures
           (sym c.eq.ensures ∙ w.if-eq.false))
     ]
 

@@ -4,4 +4,4 @@ use Rattle.morris_pairs.specs.TableFiles.{code_bytes}
 use Rattle.morris_pairs.proofs.writing.copy_codes.Given as goal
 
 abbrev pub invariant-loop-i : goal.invariant-loop-i
-invariant-loop-i g l = take (2 * l.i) l.piece ≡ code_bytes (take l.i (drop l.first l.table.codes))
+invariant-loop-i g l = take (2 * l.i) l.chunk ≡ code_bytes (take l.i (drop l.first l.table.codes))

@@ -1,7 +1,7 @@
 use Rattle.std.proofs.Common.{◌≤◌, sym, arith}
 use Rattle.std.proofs.lemmas.Result.{err_from_is_err_and}
-use Rattle.morris_queries.proofs.ExactLaws.{game_told}
-use Rattle.morris_queries.proofs.AnswerLaws.{answer_refused, answer_told}
+use Rattle.morris_queries.proofs.ExactLaws.{game_reported}
+use Rattle.morris_queries.proofs.AnswerLaws.{answer_refused, answer_reported}
 use Rattle.morris_queries.proofs.FolderLaws.{known_as, stays_here}
 use Rattle.morris_queries.proofs.answer.answer.Goals as goal
 
@@ -17,8 +17,8 @@ returns-in_err-position-clause-answer g c = λ name known of.
 pub returns-clause-answer : goal.returns-clause-answer
 returns-clause-answer g c = λ name known of.
     let few : g.B.Geometry.shape.points ≤ 24 = omega (arith, g.met.B.Geometry.point_count, g.met.B.Geometry.few) in
-    answer_told g.B.Geometry.shape name known c.args.show c.args.text.now c.in_ok-position.position c.tell.result
-    (sym c.in_ok-position.ensures.answer) c.tell.ensures.listed
-    (λ files is. c.tell.ensures.told name files (known_as is of))
-    (λ files is exact. game_told g.B.Geometry.shape few g.met.B.Geometry.has_symmetries name files c.args.show c.in_ok-position.position
-    c.own.ensures.lawful exact c.tell.result (c.tell.ensures.told name files (known_as is of)))
+    answer_reported g.B.Geometry.shape name known c.args.show c.args.text.now c.in_ok-position.position c.report.result
+    (sym c.in_ok-position.ensures.answer) c.report.ensures.listed
+    (λ files is. c.report.ensures.reported name files (known_as is of))
+    (λ files is exact. game_reported g.B.Geometry.shape few g.met.B.Geometry.has_symmetries name files c.args.show c.in_ok-position.position
+    c.own.ensures.lawful exact c.report.result (c.report.ensures.reported name files (known_as is of)))

@@ -19,8 +19,8 @@ returns-in-Some g c =
           c.falls_on.result (rw c.in-Some.ensures.1 at c.falls_on.ensures.listed);
       once = c.falls_on.ensures.once;
       few = omega (arith, c.falls_on.ensures.few, g.met.B.Geometry.few_symmetries);
-      takes = c.put_falls.ensures.takes;
-      rest = c.put_falls.ensures.left;
+      takes = c.put_orbit.ensures.takes;
+      rest = c.put_orbit.ensures.left;
     }
 
 -- the one that has it for its own, or the one that has it

@@ -9,7 +9,7 @@ use Rattle.morris_pairs.specs.Counting.{CodedEntries, table_of}
 use Rattle.morris_pairs.specs.Entries.{entry_count, entry_index}
 use Rattle.morris_pairs.proofs.CountLaws.{for_some}
 use Rattle.morris_jobs.proofs.CountedLaws.{both_some, some_map}
-use Rattle.morris_board.specs.Printers.{failed_of}
+use Rattle.morris_board.specs.Printers.{has_failed_of}
 use Rattle.morris_board.proofs.PrinterLaws.{Takes-nil, and_then_as}
 use Rattle.morris_queries.specs.Found.{AreFound, AreOf, IsStated, found_text}
 use Rattle.morris_queries.specs.declared.wanted.Kind.{Kind}
@@ -30,7 +30,7 @@ returns-in_default-clause-put g c = record {
   takes = Takes-nil g.S.Sink.contents g.S.Sink.failures c.args.out.now;
   rest = omega arith;
   found = for_some c.args.entries.now.stated _ (λ known is.
-      all_to (are g.B.Geometry.shape c.args.entries.now c.args.all c.args.kind known) c.args.most [] c.args.most (failed_of c.args.out.now) (rw c.in_default.is refl));
+      all_to (are g.B.Geometry.shape c.args.entries.now c.args.all c.args.kind known) c.args.most [] c.args.most (has_failed_of c.args.out.now) (rw c.in_default.is refl));
 }
 
 pub loop-entry-init : goal.loop-entry-init
@@ -109,13 +109,13 @@ returns-then-left-eq0-clause-put g c =
       found =
           some_map entries.stated _ _
           (λ known here. elim c.then-left-eq0.branch [
-            | then-left-eq0-via-then-left-eq0 w ↦ all_to (are board entries c.args.all c.args.kind known) c.args.most found.0 c.loop-entry.left (failed_of c.loop-entry.out) (rw c.in-Some.is
+            | then-left-eq0-via-then-left-eq0 w ↦ all_to (are board entries c.args.all c.args.kind known) c.args.most found.0 c.loop-entry.left (has_failed_of c.loop-entry.out) (rw c.in-Some.is
                 (found_enough (IsStated board (table_of entries known) c.args.all c.in-Some.kind) at c.args.most c.loop-entry.entry found.0
                 (omega (arith, found.3, here.few, w.if-left-eq0.true)) here))
             | then-left-eq0-via-else-left-eq0+then-has_failed w ↦ (
               length found.0,
               here.few,
-              (λ ok well. let failed : failed_of c.loop-entry.out ≡ true = sym w.has_failed.ensures ∙ w.if-has_failed.true in cc),
+              (λ ok well. let failed : has_failed_of c.loop-entry.out ≡ true = sym w.has_failed.ensures ∙ w.if-has_failed.true in cc),
               rw c.in-Some.is
                   (found_first (IsStated board (table_of entries known) c.args.all c.in-Some.kind) at c.args.most c.loop-entry.entry found.0 here),
             )
@@ -171,7 +171,7 @@ returns-clause-put g c =
       rest = found.3;
       found =
           some_map entries.stated _ _
-          (λ known here. all_to (are board entries c.args.all c.args.kind known) c.args.most found.0 c.loop-entry.left (failed_of c.loop-entry.out) (rw c.in-Some.is
+          (λ known here. all_to (are board entries c.args.all c.args.kind known) c.args.most found.0 c.loop-entry.left (has_failed_of c.loop-entry.out) (rw c.in-Some.is
           (found_all (IsStated board (table_of entries known) c.args.all c.in-Some.kind) at c.args.most c.loop-entry.entry found.0
           (λ s a. subst (λ n. at s < n) (sym last) (stated_inside board few g.met.B.Geometry.has_symmetries (table_of entries known) lawful c.args.all c.in-Some.kind s a)) here))) found.4;
     }

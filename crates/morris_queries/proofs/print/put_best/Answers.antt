@@ -1,11 +1,11 @@
 use Rattle.std.proofs.Common.{◌≡◌, ◌<◌, List, [], ◌∷◌, ◌++◌, codes, length, eqb, false, refl, sym, ◌∙◌, arith}
 use Rattle.std.specs.List.{flat_map}
 use Rattle.morris_board.proofs.PrinterLaws.{and_then}
-use Rattle.morris_moves.specs.declared.step.Move.{Move}
-use Rattle.morris_queries.specs.Printing.{best_text, spaced}
+use Rattle.morris_moves.specs.declared.game_move.Move.{Move}
+use Rattle.morris_queries.specs.Printing.{best_text, with_space}
 use Rattle.morris_queries.proofs.print.put_best.Goals as goal
 
-some_best : (ms : List Move) → 0 < length ms → best_text ms ≡ codes ":" ++ flat_map spaced ms
+some_best : (ms : List Move) → 0 < length ms → best_text ms ≡ codes ":" ++ flat_map with_space ms
 some_best [] h = absurd (omega arith)
 some_best (m ∷ ms) h = refl
 

@@ -9,7 +9,7 @@ use Rattle.morris_table.proofs.building.build_by_rows.Goals as goal
 
 pub returns-in-Err-clause-refused : goal.returns-in-Err-clause-refused
 returns-in-Err-clause-refused g c =
-    rw c.unbuilt.ensures
+    rw c.to_build_fault.ensures
     (refused_by_workers g.B.Geometry.shape c.args.pair layout.Classes Rows (c.in_ok-graph.ensures.deep Rows) (c.in_ok-graph.ensures.deep Classes)
     _ c.args.tables.now c.args.workers c.args.blocks c.in-Err.fault c.in_ok-graph.ensures.needs
     (subst (λ d. IsRefusal (net_at g.B.Geometry.shape (level_in Rows d)) c.args.workers c.args.blocks c.in-Err.fault) c.in_ok-graph.ensures.pair c.in-Err.ensures.refused))

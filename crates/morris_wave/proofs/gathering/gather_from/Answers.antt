@@ -6,8 +6,8 @@ use Rattle.morris_wave.specs.declared.gathering.GatherFault.TheVariants.{Memory}
 use Rattle.morris_wave.proofs.Gathered.{all_fit, gathered, late_memory}
 use Rattle.morris_wave.proofs.gathering.gather_from.Goals as goal
 
-pub drained-requires-clause-fit : goal.drained-requires-clause-fit
-drained-requires-clause-fit g c κs within =
+pub drain_codes-requires-clause-fit : goal.drain_codes-requires-clause-fit
+drain_codes-requires-clause-fit g c κs within =
     let a = c.args in
     let walked : first_complaint a.level a.wave a.cut.now [] a.blocks.items ≡ None =
     subst (λ (bs : List BlockState). first_complaint a.level a.wave a.cut.now [] bs ≡ None) c.deref-2.ensures.value c.in_ok-places_of.ensures.walked in

@@ -1,7 +1,7 @@
 use Rattle.std.proofs.Common.{◌≡◌, ◌<◌, ◌≤◌, ℕ, ◌+◌, ◌-◌, ◌%◌, ◌&&◌, eqb, List, length, slice_index, sym, ap, subst, ◌∙◌, arith, length-set, take}
 use Rattle.morris_wave.specs.Nets.{times}
 use Rattle.morris_wave.specs.Solving.{Marks, among}
-use Rattle.morris_wave.specs.Keeping.{LowersBy, left_of}
+use Rattle.morris_wave.specs.NodeRanges.{LowersBy, left_of}
 use Rattle.morris_wave.proofs.Frames.{frame_joins}
 use Rattle.morris_wave.proofs.Falling.{small_set, falls_left, lowers_more, spent_more, node_place}
 use Rattle.morris_wave.proofs.propagate.lower_all.Goals as goal

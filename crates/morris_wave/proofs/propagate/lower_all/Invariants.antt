@@ -1,6 +1,6 @@
 use Rattle.std.proofs.Common.{◌≡◌, ℕ, ◌+◌, ◌<◌, ◌&&◌, eqb, length, take, slice_index}
 use Rattle.morris_wave.specs.Solving.{Marks, among}
-use Rattle.morris_wave.specs.Keeping.{LowersBy}
+use Rattle.morris_wave.specs.NodeRanges.{LowersBy}
 use Rattle.morris_wave.specs.Frames.{SameFrame}
 use Rattle.morris_wave.proofs.propagate.lower_all.Given as goal
 

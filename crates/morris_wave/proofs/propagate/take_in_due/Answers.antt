@@ -4,13 +4,13 @@ use Rattle.std.specs.Slice.Iter.{chunks_rest}
 use Rattle.morris_wave.specs.Nets.{times}
 use Rattle.morris_wave.specs.Exits.{is_odd}
 use Rattle.morris_wave.specs.Counts.{counts_of, left_at}
-use Rattle.morris_wave.specs.Keeping.{Takes}
-use Rattle.morris_wave.specs.Gaps.{numbers_told, next_told}
+use Rattle.morris_wave.specs.NodeRanges.{Takes}
+use Rattle.morris_wave.specs.Gaps.{numbers_reported, next_reported}
 use Rattle.morris_wave.specs.GapLists.{nodes_of}
 use Rattle.morris_wave.proofs.Tests.{All_before, All_after}
 use Rattle.morris_wave.proofs.Ranks.{times-append}
 use Rattle.morris_wave.proofs.Frames.{frame_joins}
-use Rattle.morris_wave.proofs.GapLists.{told-append, next-append, next-least}
+use Rattle.morris_wave.proofs.GapLists.{reported-append, next-append, next-least}
 use Rattle.morris_wave.proofs.Joining.{takes_joins, left_later}
 use Rattle.morris_wave.proofs.propagate.take_in_due.Given as given
 use Rattle.morris_wave.proofs.propagate.take_in_due.Goals as goal
@@ -18,31 +18,31 @@ use Rattle.morris_wave.proofs.propagate.take_in_due.Goals.{In-Some}
 
 -- the nodes of the piece, between those that were taken in and those that are left
 parts : (g : given.Over) (c : In-Some g)
-    → nodes_of c.args.due.now ≡ c.loop-gaps.invariant.9 ++ (numbers_told c.loop-gaps.next c.in-Some.gaps.now ++ numbers_told (next_told c.loop-gaps.next c.in-Some.gaps.now) (chunks_rest c.next.new.self))
+    → nodes_of c.args.due.now ≡ c.loop-gaps.invariant.9 ++ (numbers_reported c.loop-gaps.next c.in-Some.gaps.now ++ numbers_reported (next_reported c.loop-gaps.next c.in-Some.gaps.now) (chunks_rest c.next.new.self))
 parts g c =
     let next = c.loop-gaps.next in
     let piece = c.in-Some.gaps.now in
     c.loop-gaps.invariant.10
-    ∙ ap (λ (xs : List ℕ). c.loop-gaps.invariant.9 ++ xs) (ap (numbers_told next) c.in-Some.ensures.steps.1.0 ∙ told-append next piece (chunks_rest c.next.new.self))
+    ∙ ap (λ (xs : List ℕ). c.loop-gaps.invariant.9 ++ xs) (ap (numbers_reported next) c.in-Some.ensures.steps.1.0 ∙ reported-append next piece (chunks_rest c.next.new.self))
 
 -- none of them is in another part
 once : (g : given.Over) (c : In-Some g) (k : ℕ) → k < length c.args.entries.now.codes
-    → times (c.args.entries.now.first + k) (c.loop-gaps.invariant.9 ++ numbers_told c.loop-gaps.next c.in-Some.gaps.now) ≤ times (c.args.entries.now.first + k) (nodes_of c.args.due.now)
+    → times (c.args.entries.now.first + k) (c.loop-gaps.invariant.9 ++ numbers_reported c.loop-gaps.next c.in-Some.gaps.now) ≤ times (c.args.entries.now.first + k) (nodes_of c.args.due.now)
 once g c k l =
     let i = c.args.entries.now.first + k in
     let done = c.loop-gaps.invariant.9 in
-    let piece = numbers_told c.loop-gaps.next c.in-Some.gaps.now in
-    let rest = numbers_told (next_told c.loop-gaps.next c.in-Some.gaps.now) (chunks_rest c.next.new.self) in
+    let piece = numbers_reported c.loop-gaps.next c.in-Some.gaps.now in
+    let rest = numbers_reported (next_reported c.loop-gaps.next c.in-Some.gaps.now) (chunks_rest c.next.new.self) in
     omega (arith, ap (times i) (parts g c), times-append i done (piece ++ rest), times-append i piece rest, times-append i done piece)
 
 -- and each is of the stretch
 within : (g : given.Over) (c : In-Some g)
-    → All (λ i. (c.args.entries.now.first ≤ i) × (i < c.args.entries.now.first + length c.args.entries.now.codes)) (numbers_told c.loop-gaps.next c.in-Some.gaps.now)
+    → All (λ i. (c.args.entries.now.first ≤ i) × (i < c.args.entries.now.first + length c.args.entries.now.codes)) (numbers_reported c.loop-gaps.next c.in-Some.gaps.now)
 within g c =
     let P : ℕ → Type 0 = λ i. (c.args.entries.now.first ≤ i) × (i < c.args.entries.now.first + length c.args.entries.now.codes) in
     let done = c.loop-gaps.invariant.9 in
-    let piece = numbers_told c.loop-gaps.next c.in-Some.gaps.now in
-    let rest = numbers_told (next_told c.loop-gaps.next c.in-Some.gaps.now) (chunks_rest c.next.new.self) in
+    let piece = numbers_reported c.loop-gaps.next c.in-Some.gaps.now in
+    let rest = numbers_reported (next_reported c.loop-gaps.next c.in-Some.gaps.now) (chunks_rest c.next.new.self) in
     All_before P piece rest (All_after P done (piece ++ rest) (subst (λ (xs : List ℕ). All P xs) (parts g c) c.requires.inside))
 
 pub read_gaps-next-requires-clause-small : goal.read_gaps-next-requires-clause-small
@@ -63,7 +63,7 @@ take_in-requires-clause-enough g c = λ even k l.
     let at = (goal.at.take_in-requires-clause-enough g c).In-Some in
     let inv = c.loop-gaps.invariant in
     let first = c.args.entries.now.first in
-    let piece = numbers_told c.loop-gaps.next c.in-Some.gaps.now in
+    let piece = numbers_reported c.loop-gaps.next c.in-Some.gaps.now in
     let before : is_odd c.args.entries.now.wave ≡ false = ap is_odd (sym inv.3.wave) ∙ even in
     let inside : k < length c.args.entries.now.codes = omega (arith, l, inv.4, c.requires.counters) in
     let counted : k < length (counts_of c.args.counters.now) = omega (arith, l, inv.4) in
@@ -80,7 +80,7 @@ loop-gaps-preserved g c =
     let steps = c.in-Some.ensures.steps in
     let next = c.loop-gaps.next in
     let gaps = c.in-Some.gaps.now in
-    let piece = numbers_told next gaps in
+    let piece = numbers_reported next gaps in
     let rest = chunks_rest c.next.new.self in
     let made = c.take_in.ensures in
     let entries = c.args.entries.now in
@@ -93,11 +93,11 @@ loop-gaps-preserved g c =
       made.most ∙ inv.5,
       made.small,
       read.room,
-      ap (λ (n : ℕ). next_told n rest) read.next ∙ (sym (next-append next gaps rest) ∙ (ap (next_told next) (sym steps.1.0) ∙ inv.8)),
+      ap (λ (n : ℕ). next_reported n rest) read.next ∙ (sym (next-append next gaps rest) ∙ (ap (next_reported next) (sym steps.1.0) ∙ inv.8)),
       inv.9 ++ piece,
       parts g at
-          ∙ (sym (append_assoc inv.9 piece (numbers_told (next_told next gaps) rest))
-          ∙ ap (λ (n : ℕ). (inv.9 ++ piece) ++ numbers_told n rest) (sym read.next)),
+          ∙ (sym (append_assoc inv.9 piece (numbers_reported (next_reported next gaps) rest))
+          ∙ ap (λ (n : ℕ). (inv.9 ++ piece) ++ numbers_reported n rest) (sym read.next)),
       takes_joins entries.wave entries.first inv.9 piece entries.codes c.loop-gaps.entries.codes c.take_in.new.entries.codes
           (counts_of c.args.counters.now) (counts_of c.loop-gaps.counters) (counts_of c.take_in.new.counters) inv.3.len inv.4 c.requires.counters
           (λ k l. omega (arith, once g at k l, c.requires.once k l)) (λ k l. made.small k (omega (arith, l, made.counters_len, inv.4, c.requires.counters))) inv.11

@@ -1,7 +1,7 @@
 use Rattle.std.proofs.Common.{◌≡◌, ◌+◌, ◌*◌, ℕ, length, length-append, length-drop, min, take, subst, arith}
 use Rattle.std.proofs.lemmas.List.{length-take}
-use Rattle.morris_wave.specs.declared.network.Exits.{Exits}
-use Rattle.morris_wave.specs.Keeping.{HasRead}
+use Rattle.morris_wave.specs.declared.graph.Exits.{Exits}
+use Rattle.morris_wave.specs.NodeRanges.{HasRead}
 use Rattle.morris_wave.proofs.Frames.{frame_joins}
 use Rattle.morris_wave.proofs.reading.read_all.Goals as goal
 

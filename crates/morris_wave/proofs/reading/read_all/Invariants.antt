@@ -1,5 +1,5 @@
 use Rattle.std.proofs.Common.{◌≡◌, ◌*◌, length, min}
-use Rattle.morris_wave.specs.Keeping.{HasRead}
+use Rattle.morris_wave.specs.NodeRanges.{HasRead}
 use Rattle.morris_wave.specs.Frames.{SameFrame}
 use Rattle.morris_wave.proofs.reading.read_all.Given as goal
 

@@ -2,7 +2,7 @@ use Rattle.std.proofs.Common.{◌≡◌, ◌<◌, ℕ, ◌+◌, ◌&&◌, eqb, l
 use Rattle.std.proofs.lemmas.Bool.{ltb-true}
 use Rattle.morris_wave.specs.Exits.{exits_of, exits_won}
 use Rattle.morris_wave.specs.Solving.{Marks, exits_at}
-use Rattle.morris_wave.specs.Keeping.{HasRead}
+use Rattle.morris_wave.specs.NodeRanges.{HasRead}
 use Rattle.morris_wave.proofs.Frames.{frame_joins}
 use Rattle.morris_wave.proofs.Readings.{read_more}
 use Rattle.morris_wave.proofs.reading.read_piece.Goals as goal

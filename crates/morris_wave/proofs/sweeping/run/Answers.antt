@@ -1,6 +1,6 @@
 use Rattle.std.proofs.Common.{◌≡◌, ℕ, ◌+◌, ◌<◌, ◌≤◌, length, sym, subst, ◌∙◌, arith}
 use Rattle.morris_wave.specs.Lists.{list_at}
-use Rattle.morris_wave.specs.Keeping.{Takes}
+use Rattle.morris_wave.specs.NodeRanges.{Takes}
 use Rattle.morris_wave.specs.Counts.{counts_of, left_at, AreFew}
 use Rattle.morris_wave.specs.Nets.{times}
 use Rattle.morris_wave.proofs.Widths.{left_enough}

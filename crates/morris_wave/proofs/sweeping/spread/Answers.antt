@@ -3,7 +3,7 @@ use Rattle.std.proofs.lemmas.List.{take_all}
 use Rattle.morris_wave.specs.Nets.{times}
 use Rattle.morris_wave.specs.Exits.{is_odd}
 use Rattle.morris_wave.specs.Solving.{ListsFresh, among, every}
-use Rattle.morris_wave.specs.Keeping.{StretchHolds, Ranked, Takes}
+use Rattle.morris_wave.specs.NodeRanges.{NodeRangeHolds, Ranked, Takes}
 use Rattle.morris_wave.specs.Counts.{counts_of, left_at, AreFew}
 use Rattle.morris_wave.proofs.Widths.{left_enough}
 use Rattle.morris_wave.proofs.Frames.{frame_same, frame_joins}
@@ -18,7 +18,7 @@ fresh_nodes : (g : given.Over) (c : Start g) → ListsFresh (g.G.Name.Levels.net
 fresh_nodes g c =
     let e = c.args.whole.now.entries in
     fresh_listed (g.G.Name.Levels.lawful (g.G.Graph.level c.args.graph.now)) c.requires.start.holds (omega (arith, c.requires.start.len))
-    (g.L.NodeList.items e.decided) e.before e.here (subst (λ (f : ℕ). Ranked g.L.NodeList.keeps f e.wave e.codes (g.L.NodeList.items e.decided) e.before e.here) c.requires.start.first e.ranked)
+    (g.L.NodeList.items e.decided) e.before e.here (subst (λ (f : ℕ). Ranked g.L.NodeList.retains f e.wave e.codes (g.L.NodeList.items e.decided) e.before e.here) c.requires.start.first e.ranked)
 
 pub loop-place-init : goal.loop-place-init
 loop-place-init g c =
@@ -85,7 +85,7 @@ loop-place-preserved g c =
     let next : i + 1 ≡ c.loop-place.place + 1 - e.before = omega (arith, inv.1) in (
       frame_joins e now.entries new.entries inv.0 made.frame,
       omega (arith, inv.1),
-      subst (λ (p : ℕ). StretchHolds net e.wave (among (take p fresh)) 0 codes' (counts_of new.counters) new.due new.last_due) next
+      subst (λ (p : ℕ). NodeRangeHolds net e.wave (among (take p fresh)) 0 codes' (counts_of new.counters) new.due new.last_due) next
           (rw (made.due, made.last_due) more),
       made.most ∙ inv.3,
     )
@@ -108,9 +108,9 @@ returns-clause-done g c =
       len = inv.0.len ∙ c.requires.start.len;
       few = subst (λ (m : ℕ). AreFew net 0 net.size m) (sym inv.3) c.requires.start.few;
       holds =
-          subst (λ (w : ℕ). StretchHolds net w every 0 codes (counts_of now.counters) now.due now.last_due) (sym inv.0.wave)
+          subst (λ (w : ℕ). NodeRangeHolds net w every 0 codes (counts_of now.counters) now.due now.last_due) (sym inv.0.wave)
           (spread_all law fresh listed
-          (subst (λ (xs : List ℕ). StretchHolds net e.wave (among xs) 0 codes (counts_of now.counters) now.due now.last_due) whole inv.2));
+          (subst (λ (xs : List ℕ). NodeRangeHolds net e.wave (among xs) 0 codes (counts_of now.counters) now.due now.last_due) whole inv.2));
     }
 
 pub take_in-requires-clause-inside : goal.take_in-requires-clause-inside

@@ -1,6 +1,6 @@
 use Rattle.std.proofs.Common.{◌≡◌, ℕ, ◌-◌, sym, subst, ◌∙◌, arith}
 use Rattle.morris_wave.specs.Solving.{every}
-use Rattle.morris_wave.specs.Keeping.{StretchHolds}
+use Rattle.morris_wave.specs.NodeRanges.{NodeRangeHolds}
 use Rattle.morris_wave.specs.Counts.{counts_of, most_of, AreFew}
 use Rattle.morris_wave.proofs.Plies.{ply_rules, code_rules}
 use Rattle.morris_wave.proofs.sweeping.sweep_watched.Goals as goal
@@ -30,5 +30,5 @@ codes_of-requires-clause-start g c = λ _ _.
       first = made.first;
       len = made.len ∙ all;
       few = subst (λ (n : ℕ). AreFew net 0 n (most_of whole.counters)) all made.few;
-      holds = subst (λ (w : ℕ). StretchHolds net w every 0 whole.entries.codes (counts_of whole.counters) whole.due whole.last_due) (sym made.wave) made.holds;
+      holds = subst (λ (w : ℕ). NodeRangeHolds net w every 0 whole.entries.codes (counts_of whole.counters) whole.due whole.last_due) (sym made.wave) made.holds;
     }

@@ -21,7 +21,7 @@ returns-then-is_empty g t c =
     record {
       count = as_long c.in-Some.rest.now c.in-Some.rest.now c.in-Some.last.now c.make_drawn.new.seat c.args.seats.now c.in-Some.ensures.cases.0 refl;
       drawn = alone c.args.tickets.now (g.G.Name.Levels.net (g.G.Graph.level c.args.graph.now)) c.in-Some.rest.now c.make_drawn.new.seat c.make_drawn.result none c.make_drawn.ensures.drawn;
-      told = c.make_drawn.ensures.told;
+      reported = c.make_drawn.ensures.reported;
     }
 
 pub returns-clause-count : goal.returns-clause-count

@@ -17,7 +17,7 @@ loop-number-preserved g c =
       numbers = ap block_numbers items
           ∙ (map-append (λ (s : BlockState). s.number) c.loop-number.made.items (c.in_ok-block.block ∷ [])
           ∙ (ap₂ (λ (xs : List ℕ) (n : ℕ). xs ++ n ∷ []) c.loop-number.invariant.numbers number ∙ sym c.in-Some.ensures.appended));
-      told = g.met.W.Watch.joins c.args.watch.now c.loop-number.watch c.entries.new.self c.loop-number.invariant.told c.entries.ensures;
+      reported = g.met.W.Watch.joins c.args.watch.now c.loop-number.watch c.entries.new.self c.loop-number.invariant.reported c.entries.ensures;
     }
 
 pub returns-then-last_due-from-clause-drawn : goal.returns-then-last_due-from-clause-drawn

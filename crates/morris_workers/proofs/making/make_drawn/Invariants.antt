@@ -11,5 +11,5 @@ invariant-loop-number g l = record {
   seat : IsSeatOf l.tickets l.seat;
   ready : has_ended l.seat ≡ false;
   numbers : block_numbers l.made.items ≡ numbers_of l.seat;
-  told : g.W.Watch.becomes l.fn.watch l.watch;
+  reported : g.W.Watch.becomes l.fn.watch l.watch;
 }

@@ -20,7 +20,7 @@ returns-then-size-short-clause-outcome g c = code_rules _
 pub returns-then-size-short-clause-refused : goal.returns-then-size-short-clause-refused
 returns-then-size-short-clause-refused g c =
     late_refusal (g.G.Name.Levels.net (g.G.Graph.level c.args.graph.now)) c.args.workers c.args.blocks c.solve_as.result c.in_ok-check_numbers.ensures
-    (subst (λ n. IfErr c.solve_as.result (Tells (g.G.Name.Levels.net (g.G.Graph.level c.args.graph.now)) n)) c.cut_into-cut.ensures.parts c.solve_as.ensures.told)
+    (subst (λ n. IfErr c.solve_as.result (Tells (g.G.Name.Levels.net (g.G.Graph.level c.args.graph.now)) n)) c.cut_into-cut.ensures.parts c.solve_as.ensures.reported)
 
 pub returns-else-size-short-clause-plies : goal.returns-else-size-short-clause-plies
 returns-else-size-short-clause-plies g c = ply_rules _
@@ -31,4 +31,4 @@ returns-else-size-short-clause-outcome g c = code_rules _
 pub returns-else-size-short-clause-refused : goal.returns-else-size-short-clause-refused
 returns-else-size-short-clause-refused g c =
     late_refusal (g.G.Name.Levels.net (g.G.Graph.level c.args.graph.now)) c.args.workers c.args.blocks c.solve_as-else-size-short.result c.in_ok-check_numbers.ensures
-    (subst (λ n. IfErr c.solve_as-else-size-short.result (Tells (g.G.Name.Levels.net (g.G.Graph.level c.args.graph.now)) n)) c.cut_into-cut.ensures.parts c.solve_as-else-size-short.ensures.told)
+    (subst (λ n. IfErr c.solve_as-else-size-short.result (Tells (g.G.Name.Levels.net (g.G.Graph.level c.args.graph.now)) n)) c.cut_into-cut.ensures.parts c.solve_as-else-size-short.ensures.reported)

@@ -1,11 +1,11 @@
 use Rattle.std.proofs.Common.{◌≡◌, ◌≢◌, ◌∙◌, sym, arith, Err, length, rules}
-use Rattle.morris_board.specs.Positions.{read_of, shown}
+use Rattle.morris_board.specs.Positions.{read_of, sides_of_text}
 use Rattle.morris_board.specs.declared.faults.TextFault.TheVariants as fault
 use Rattle.morris_board.proofs.TextLaws.{IsApart-shown, complete_of, shows_of, ok_made, err_made, read_short, read_bad}
 use Rattle.morris_board.proofs.position.Position.read.Goals as goal
 
 pub new-requires : goal.new-requires
-unfolding shown
+unfolding sides_of_text
 new-requires g c =
     let long : length c.args.bytes.now ≡ g.B.Geometry.shape.points = omega (arith, c.POINTS.ensures, g.met.B.Geometry.point_count) in
     rw (c.places.ensures, c.places-in-None.ensures) (IsApart-shown g.B.Geometry.shape c.args.bytes.now long)

@@ -6,8 +6,8 @@ use Rattle.morris_board.proofs.PointsLaws.{count_of-without}
 use Rattle.morris_board.proofs.SetLaws.{point_lt, without_point-lt}
 use Rattle.morris_board.proofs.PositionLaws.{other_count}
 use Rattle.morris_index.specs.Classes.{representative_of}
-use Rattle.morris_index.specs.Parts.{squeezed_below}
-use Rattle.morris_index.specs.Standings.{IsLedStanding}
+use Rattle.morris_index.specs.Parts.{squeeze_below}
+use Rattle.morris_index.specs.Standings.{IsCanonicalStanding}
 use Rattle.morris_index.proofs.class_pair.ClassPair.elsewhere.Given as given
 use Rattle.morris_index.proofs.class_pair.ClassPair.elsewhere.Goals as goal
 use Rattle.morris_index.proofs.class_pair.ClassPair.elsewhere.Goals.{After-other, After-own}
@@ -62,10 +62,10 @@ invariant_of-result g c =
     let own = c.requires.own in
     record {
       counted = rows;
-      stands = subst (λ m. IsLedStanding g.B.Geometry.shape g.B.Geometry.POINTS c.pair.result m c.args.standing.now) (more ∙ sym rows)
-          (subst (λ p. IsLedStanding g.B.Geometry.shape g.B.Geometry.POINTS p (count_of c.args.position.now.other) c.args.standing.now) (sym c.pair.ensures.value) c.requires.stands);
+      stands = subst (λ m. IsCanonicalStanding g.B.Geometry.shape g.B.Geometry.POINTS c.pair.result m c.args.standing.now) (more ∙ sym rows)
+          (subst (λ p. IsCanonicalStanding g.B.Geometry.shape g.B.Geometry.POINTS p (count_of c.args.position.now.other) c.args.standing.now) (sym c.pair.ensures.value) c.requires.stands);
       own = search;
       least = ap (representative_of g.B.Geometry.shape) own ∙ c.requires.least ∙ sym own;
       numbers = c.numbers_outside-numbers.ensures.numbers
-          ∙ ap (λ o. squeezed_below o c.without-rest.result 24) (c.own.ensures.points ∙ sym own);
+          ∙ ap (λ o. squeeze_below o c.without-rest.result 24) (c.own.ensures.points ∙ sym own);
     }

@@ -11,20 +11,20 @@ use Rattle.morris_index.proofs.elsewhere.Elsewhere.entry_on.Given as given
 use Rattle.morris_index.proofs.elsewhere.Elsewhere.entry_on.Goals as goal
 use Rattle.morris_index.proofs.elsewhere.Elsewhere.entry_on.Goals.{After-mask}
 
-kept : (g : given.Over) (c : After-mask g) → IsElsewhere g.B.Geometry.shape g.B.Geometry.POINTS c.args.self.now c.self.inside.standing c.self.inside.numbers c.self.inside.rows
-kept g c =
+table : (g : given.Over) (c : After-mask g) → IsElsewhere g.B.Geometry.shape g.B.Geometry.POINTS c.args.self.now c.self.inside.standing c.self.inside.numbers c.self.inside.rows
+table g c =
     subst (λ (q : InPair). IsElsewhere g.B.Geometry.shape g.B.Geometry.POINTS q c.self.inside.standing c.self.inside.numbers c.self.inside.rows) c.self.view_is c.self.invariant
 
 point_low : (g : given.Over) (c : After-mask g) → c.args.point < 24
 point_low g c =
-    omega (arith, on_board g.B.Geometry.shape g.B.Geometry.POINTS g.met.B.Geometry.few g.met.B.Geometry.point_count g.met.B.Geometry.has_symmetries c.args.self.now c.self.inside.standing c.self.inside.numbers c.self.inside.rows (kept g c) c.args.point c.requires.free c.requires.lawful, g.met.B.Geometry.few)
+    omega (arith, on_board g.B.Geometry.shape g.B.Geometry.POINTS g.met.B.Geometry.few g.met.B.Geometry.point_count g.met.B.Geometry.has_symmetries c.args.self.now c.self.inside.standing c.self.inside.numbers c.self.inside.rows (table g c) c.args.point c.requires.free c.requires.lawful, g.met.B.Geometry.few)
 
 number_low : (g : given.Over) (c : After-mask g) → c.number_outside-number.result < 24
 number_low g c =
     omega (
       arith,
       c.number_outside-number.ensures,
-      number_few g.B.Geometry.shape g.B.Geometry.POINTS g.met.B.Geometry.few g.met.B.Geometry.point_count g.met.B.Geometry.has_symmetries c.args.self.now c.self.inside.standing c.self.inside.numbers c.self.inside.rows (kept g c) c.args.point c.requires.free c.requires.lawful,
+      number_few g.B.Geometry.shape g.B.Geometry.POINTS g.met.B.Geometry.few g.met.B.Geometry.point_count g.met.B.Geometry.has_symmetries c.args.self.now c.self.inside.standing c.self.inside.numbers c.self.inside.rows (table g c) c.args.point c.requires.free c.requires.lawful,
       point_low g c,
     )
 
@@ -53,7 +53,7 @@ overflow_add-numbers g c =
     omega (
       arith,
       sum g (goal.at.overflow_add-numbers g c).After-mask,
-      numbers_within g.B.Geometry.shape g.B.Geometry.POINTS g.met.B.Geometry.few g.met.B.Geometry.point_count g.met.B.Geometry.has_symmetries c.args.self.now c.self.inside.standing c.self.inside.numbers c.self.inside.rows (kept g (goal.at.overflow_add-numbers g c).After-mask) c.args.point c.requires.free c.requires.lawful,
+      numbers_within g.B.Geometry.shape g.B.Geometry.POINTS g.met.B.Geometry.few g.met.B.Geometry.point_count g.met.B.Geometry.has_symmetries c.args.self.now c.self.inside.standing c.self.inside.numbers c.self.inside.rows (table g (goal.at.overflow_add-numbers g c).After-mask) c.args.point c.requires.free c.requires.lawful,
     )
 
 pub rank-requires-clause-board : goal.rank-requires-clause-board
@@ -62,18 +62,18 @@ rank-requires-clause-board g c =
       arith,
       c.from_mask.ensures,
       sum g (goal.at.rank-requires-clause-board g c).After-mask,
-      numbers_within g.B.Geometry.shape g.B.Geometry.POINTS g.met.B.Geometry.few g.met.B.Geometry.point_count g.met.B.Geometry.has_symmetries c.args.self.now c.self.inside.standing c.self.inside.numbers c.self.inside.rows (kept g (goal.at.rank-requires-clause-board g c).After-mask) c.args.point c.requires.free c.requires.lawful,
+      numbers_within g.B.Geometry.shape g.B.Geometry.POINTS g.met.B.Geometry.few g.met.B.Geometry.point_count g.met.B.Geometry.has_symmetries c.args.self.now c.self.inside.standing c.self.inside.numbers c.self.inside.rows (table g (goal.at.rank-requires-clause-board g c).After-mask) c.args.point c.requires.free c.requires.lawful,
     )
 
 pub rank-requires-clause-counted : goal.rank-requires-clause-counted
 rank-requires-clause-counted g c =
     ap count_of (c.from_mask.ensures ∙ sum g (goal.at.rank-requires-clause-counted g c).After-mask)
-    ∙ numbers_counted g.B.Geometry.shape g.B.Geometry.POINTS g.met.B.Geometry.few g.met.B.Geometry.point_count g.met.B.Geometry.has_symmetries c.args.self.now c.self.inside.standing c.self.inside.numbers c.self.inside.rows (kept g (goal.at.rank-requires-clause-counted g c).After-mask) c.args.point c.requires.free c.requires.lawful
+    ∙ numbers_counted g.B.Geometry.shape g.B.Geometry.POINTS g.met.B.Geometry.few g.met.B.Geometry.point_count g.met.B.Geometry.has_symmetries c.args.self.now c.self.inside.standing c.self.inside.numbers c.self.inside.rows (table g (goal.at.rank-requires-clause-counted g c).After-mask) c.args.point c.requires.free c.requires.lawful
 
 pub overflow_add-result : goal.overflow_add-result
 overflow_add-result g c =
-    let k = kept g (goal.at.overflow_add-result g c).After-mask in
-    let numbers = numbers_within g.B.Geometry.shape g.B.Geometry.POINTS g.met.B.Geometry.few g.met.B.Geometry.point_count g.met.B.Geometry.has_symmetries c.args.self.now c.self.inside.standing c.self.inside.numbers c.self.inside.rows (kept g (goal.at.overflow_add-result g c).After-mask) c.args.point c.requires.free c.requires.lawful in
+    let k = table g (goal.at.overflow_add-result g c).After-mask in
+    let numbers = numbers_within g.B.Geometry.shape g.B.Geometry.POINTS g.met.B.Geometry.few g.met.B.Geometry.point_count g.met.B.Geometry.has_symmetries c.args.self.now c.self.inside.standing c.self.inside.numbers c.self.inside.rows (table g (goal.at.overflow_add-result g c).After-mask) c.args.point c.requires.free c.requires.lawful in
     omega (
       arith,
       k.stands.few,
@@ -85,11 +85,11 @@ pub returns-clause-value : goal.returns-clause-value
 returns-clause-value g c =
     ap (λ r. c.self.inside.standing.start + r) (c.rank.ensures
     ∙ ap (λ x. rank_of (map (number_outside 0) (members x))) (c.from_mask.ensures ∙ sum g (goal.at.returns-clause-value g c).After-mask))
-    ∙ entry_there g.B.Geometry.shape g.B.Geometry.POINTS g.met.B.Geometry.few g.met.B.Geometry.point_count g.met.B.Geometry.has_symmetries c.args.self.now c.self.inside.standing c.self.inside.numbers c.self.inside.rows (kept g (goal.at.returns-clause-value g c).After-mask) c.args.point c.requires.free c.requires.lawful
+    ∙ entry_there g.B.Geometry.shape g.B.Geometry.POINTS g.met.B.Geometry.few g.met.B.Geometry.point_count g.met.B.Geometry.has_symmetries c.args.self.now c.self.inside.standing c.self.inside.numbers c.self.inside.rows (table g (goal.at.returns-clause-value g c).After-mask) c.args.point c.requires.free c.requires.lawful
 
 pub returns-clause-below : goal.returns-clause-below
 returns-clause-below g c =
     let value = ap (λ r. c.self.inside.standing.start + r) (c.rank.ensures
     ∙ ap (λ x. rank_of (map (number_outside 0) (members x))) (c.from_mask.ensures ∙ sum g (goal.at.returns-clause-below g c).After-mask))
-    ∙ entry_there g.B.Geometry.shape g.B.Geometry.POINTS g.met.B.Geometry.few g.met.B.Geometry.point_count g.met.B.Geometry.has_symmetries c.args.self.now c.self.inside.standing c.self.inside.numbers c.self.inside.rows (kept g (goal.at.returns-clause-below g c).After-mask) c.args.point c.requires.free c.requires.lawful in
-    rw value (entry_inside g.B.Geometry.shape g.B.Geometry.POINTS g.met.B.Geometry.few g.met.B.Geometry.point_count g.met.B.Geometry.has_symmetries c.args.self.now c.self.inside.standing c.self.inside.numbers c.self.inside.rows (kept g (goal.at.returns-clause-below g c).After-mask) c.args.point c.requires.free c.requires.lawful)
+    ∙ entry_there g.B.Geometry.shape g.B.Geometry.POINTS g.met.B.Geometry.few g.met.B.Geometry.point_count g.met.B.Geometry.has_symmetries c.args.self.now c.self.inside.standing c.self.inside.numbers c.self.inside.rows (table g (goal.at.returns-clause-below g c).After-mask) c.args.point c.requires.free c.requires.lawful in
+    rw value (entry_inside g.B.Geometry.shape g.B.Geometry.POINTS g.met.B.Geometry.few g.met.B.Geometry.point_count g.met.B.Geometry.has_symmetries c.args.self.now c.self.inside.standing c.self.inside.numbers c.self.inside.rows (table g (goal.at.returns-clause-below g c).After-mask) c.args.point c.requires.free c.requires.lawful)

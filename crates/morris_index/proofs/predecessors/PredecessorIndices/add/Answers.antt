@@ -3,7 +3,7 @@ use Rattle.std.proofs.lemmas.List.{map-append}
 use Rattle.std.proofs.lemmas.Result.{on_ok_weaker}
 use Rattle.morris_board.specs.Sets.{has, members}
 use Rattle.morris_index.specs.Pairs.{index_of}
-use Rattle.morris_index.specs.Moves.{InPair, taken_back}
+use Rattle.morris_index.specs.Moves.{InPair, unmove_sides}
 use Rattle.morris_index.proofs.MoveLaws.{other_lt}
 use Rattle.morris_index.proofs.SourceLaws.{members-split}
 use Rattle.morris_index.proofs.predecessors.PredecessorIndices.add.Goals as goal
@@ -15,11 +15,11 @@ below-below-requires g c =
 
 pub returns : goal.returns
 returns g c =
-    let split : members c.common.result ++ members c.less.result ≡ members c.args.sources =
-    members-split c.args.sources c.below-below.result c.common.result c.less.result _ c.below-below.ensures c.common.ensures c.less.ensures in
+    let split : members c.intersection.result ++ members c.difference.result ≡ members c.args.sources =
+    members-split c.args.sources c.below-below.result c.intersection.result c.difference.result _ c.below-below.ensures c.intersection.ensures c.difference.ensures in
     on_ok_weaker c.add_from-2.result (λ (e : c.add_from-2.new.out.items ≡ c.add_from.new.out.items
-    ++ map (λ p. index_of g.B.Geometry.POINTS c.args.self.now.pair (taken_back c.args.self.now.position p c.args.to)) (members c.less.result)).
-    e ∙ (ap (λ (xs : List ℕ). xs ++ map (λ p. index_of g.B.Geometry.POINTS c.args.self.now.pair (taken_back c.args.self.now.position p c.args.to)) (members c.less.result)) c.in_ok-add_from.ensures
+    ++ map (λ p. index_of g.B.Geometry.POINTS c.args.self.now.pair (unmove_sides c.args.self.now.position p c.args.to)) (members c.difference.result)).
+    e ∙ (ap (λ (xs : List ℕ). xs ++ map (λ p. index_of g.B.Geometry.POINTS c.args.self.now.pair (unmove_sides c.args.self.now.position p c.args.to)) (members c.difference.result)) c.in_ok-add_from.ensures
     ∙ (append_assoc c.args.out.now.items _ _
-    ∙ ap (λ (xs : List ℕ). c.args.out.now.items ++ xs) (sym (map-append (λ p. index_of g.B.Geometry.POINTS c.args.self.now.pair (taken_back c.args.self.now.position p c.args.to)) (members c.common.result) (members c.less.result))
-    ∙ ap (map (λ p. index_of g.B.Geometry.POINTS c.args.self.now.pair (taken_back c.args.self.now.position p c.args.to))) split)))) c.add_from-2.ensures
+    ∙ ap (λ (xs : List ℕ). c.args.out.now.items ++ xs) (sym (map-append (λ p. index_of g.B.Geometry.POINTS c.args.self.now.pair (unmove_sides c.args.self.now.position p c.args.to)) (members c.intersection.result) (members c.difference.result))
+    ∙ ap (map (λ p. index_of g.B.Geometry.POINTS c.args.self.now.pair (unmove_sides c.args.self.now.position p c.args.to))) split)))) c.add_from-2.ensures

@@ -1,7 +1,7 @@
 use Rattle.std.proofs.Common.{◌≡◌, ◌<◌, ◌+◌, ◌-◌, ◌||◌, not, true, ap, ap₂, sym, ◌∙◌, arith}
 use Rattle.morris_board.specs.Sets.{has}
 use Rattle.morris_index.specs.Pairs.{index_of}
-use Rattle.morris_index.specs.Moves.{InPair, taken_back, end_taken_back}
+use Rattle.morris_index.specs.Moves.{InPair, unmove_sides, end_taken_back}
 use Rattle.morris_index.proofs.IndexLaws.{placed}
 use Rattle.morris_board.proofs.PositionLaws.{own_count, other_count}
 use Rattle.morris_index.proofs.CarriedLaws.{member_has, split_after, pushed}
@@ -19,11 +19,11 @@ pub end-requires : goal.end-requires
 end-requires g c =
     (c.requires.sources c.in-Some.from (member_has c.args.sources c.in-Some.from c.loop-from.yielded _ _ c.loop-from.invariant.split c.in-Some.ensures.steps)).0
 
-pub overflow_add-turned : goal.overflow_add-turned
-overflow_add-turned g c =
+pub overflow_add-swap_sides : goal.overflow_add-swap_sides
+overflow_add-swap_sides g c =
     omega (
       arith,
-      c.self.invariant.turned,
+      c.self.invariant.swap_sides,
       c.end.ensures.few,
       turned_index-few g.B.Geometry.POINTS (omega (arith, g.met.B.Geometry.few)) c.self.inside.position
           (placed g.B.Geometry.shape g.B.Geometry.POINTS c.self.inside.position g.met.B.Geometry.point_count c.self.invariant.lawful)
@@ -31,8 +31,8 @@ overflow_add-turned g c =
     )
 
 -- what is added and what is taken away
-grown : (g : given.Over) (c : After-end g) → index_of g.B.Geometry.POINTS c.self.inside.pair (taken_back c.self.inside.position c.in-Some.from c.args.to) + c.end-gone.result
-    ≡ c.self.inside.turned + c.end.result
+grown : (g : given.Over) (c : After-end g) → index_of g.B.Geometry.POINTS c.self.inside.pair (unmove_sides c.self.inside.position c.in-Some.from c.args.to) + c.end-gone.result
+    ≡ c.self.inside.swap_sides + c.end.result
 grown g c =
     let end : has c.self.inside.position.other c.args.to ≡ true = ap (λ (q : InPair). has q.position.other c.args.to) c.self.view_is ∙ c.requires.end in
     let here : has c.args.sources c.in-Some.from ≡ true =
@@ -44,23 +44,23 @@ grown g c =
     c.end.ensures.value ∙ ap (λ (q : InPair). end_taken_back c.args.lower g.B.Geometry.POINTS q.position c.in-Some.from) (sym c.self.view_is) in
     let gone : c.end-gone.result ≡ end_taken_back c.args.lower g.B.Geometry.POINTS c.self.inside.position c.args.to =
     c.end-gone.ensures.value ∙ ap (λ (q : InPair). end_taken_back c.args.lower g.B.Geometry.POINTS q.position c.args.to) (sym c.self.view_is) in
-    ap (λ x. index_of g.B.Geometry.POINTS c.self.inside.pair (taken_back c.self.inside.position c.in-Some.from c.args.to) + x) gone
+    ap (λ x. index_of g.B.Geometry.POINTS c.self.inside.pair (unmove_sides c.self.inside.position c.in-Some.from c.args.to) + x) gone
     ∙ (end_index g.B.Geometry.POINTS (omega (arith, g.met.B.Geometry.few)) c.self.inside.pair c.self.inside.position
     (placed g.B.Geometry.shape g.B.Geometry.POINTS c.self.inside.position g.met.B.Geometry.point_count c.self.invariant.lawful)
     ((own_count c.self.inside.position c.self.invariant.lawful.sized).1) ((other_count c.self.inside.position c.self.invariant.lawful.sized).1)
     c.in-Some.from c.args.to start (vacant_own _ _ vacant) (vacant_other _ _ vacant) end
     c.self.inside.moved c.self.invariant.moved c.self.inside.renumbered c.self.invariant.renumbered c.args.lower (c.requires.side c.in-Some.from here)
-    ∙ ap₂ (λ x y. x + y) (sym c.self.invariant.turned) (sym come))
+    ∙ ap₂ (λ x y. x + y) (sym c.self.invariant.swap_sides) (sym come))
 
-pub overflow_sub-turned : goal.overflow_sub-turned
-overflow_sub-turned g c = omega (arith, grown g (goal.at.overflow_sub-turned g c).After-end)
+pub overflow_sub-swap_sides : goal.overflow_sub-swap_sides
+overflow_sub-swap_sides g c = omega (arith, grown g (goal.at.overflow_sub-swap_sides g c).After-end)
 
 pub loop-from-preserved : goal.loop-from-preserved
 loop-from-preserved g c =
-    let index : c.self.inside.turned + c.end.result - c.end-gone.result ≡ index_of g.B.Geometry.POINTS c.self.inside.pair (taken_back c.self.inside.position c.in-Some.from c.args.to) =
+    let index : c.self.inside.swap_sides + c.end.result - c.end-gone.result ≡ index_of g.B.Geometry.POINTS c.self.inside.pair (unmove_sides c.self.inside.position c.in-Some.from c.args.to) =
     omega (arith, grown g (goal.at.loop-from-preserved g c).After-end) in
     record {
       split = split_after c.loop-from.yielded _ c.in-Some.from _ _ c.in-Some.ensures.steps c.loop-from.invariant.split;
       added = c.in_ok-push.ensures.items ∙ pushed _ c.args.out.now.items c.loop-from.yielded c.loop-from.out.items c.in-Some.from _ c.loop-from.invariant.added
-          (index ∙ ap (λ (q : InPair). index_of g.B.Geometry.POINTS q.pair (taken_back q.position c.in-Some.from c.args.to)) c.self.view_is);
+          (index ∙ ap (λ (q : InPair). index_of g.B.Geometry.POINTS q.pair (unmove_sides q.position c.in-Some.from c.args.to)) c.self.view_is);
     }

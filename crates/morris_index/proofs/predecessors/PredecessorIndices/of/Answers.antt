@@ -88,7 +88,7 @@ invariant_of-result g c =
       pair = c.start_of.ensures.lawful;
       moved = is.0;
       renumbered = is.1;
-      turned = ap₂ (λ x y. x + y)
+      swap_sides = ap₂ (λ x y. x + y)
           (c.start_of.ensures.value ∙ ap (start_of g.B.Geometry.POINTS c.args.pair.now) (c.count-3.ensures.value ∙ ap count_of c.other-other.ensures.points))
           (ap₂ (λ x y. x + y) (ap₂ (λ x y. x * y) is.2 choices_is) is.3)
           ∙ turned_index g.B.Geometry.POINTS (omega (arith, g.met.B.Geometry.few)) c.args.position.now

@@ -19,13 +19,13 @@ loop-index-init c = record {
   next = λ h. c.least-set.ensures;
 }
 
-pub following-requires-clause-within : goal.following-requires-clause-within
-following-requires-clause-within c =
+pub next_set-requires-clause-within : goal.next_set-requires-clause-within
+next_set-requires-clause-within c =
     let all : c.binomial-all.result ≡ choose c.args.points c.args.count = c.binomial-all.ensures.value in
     (c.loop-index.invariant.next (omega (arith, all, c.loop-index-test.true))).within
 
-pub following-requires-clause-apart : goal.following-requires-clause-apart
-following-requires-clause-apart c =
+pub next_set-requires-clause-apart : goal.next_set-requires-clause-apart
+next_set-requires-clause-apart c =
     let all : c.binomial-all.result ≡ choose c.args.points c.args.count = c.binomial-all.ensures.value in
     (c.loop-index.invariant.next (omega (arith, all, c.loop-index-test.true))).apart
 
@@ -46,7 +46,7 @@ loop-index-preserved c =
             (sym (get_or_append_left c.loop-index.sets.items (c.mask.result ∷ []) 0 rank (omega (arith, c.loop-index.invariant.len))))
             (c.loop-index.invariant.each rank (omega arith))
       ]);
-      next = elim c.match-following.branch [
+      next = elim c.match-next_set.branch [
         | in-Some w ↦ λ h.
             rw w.set-is
             (subst (λ k. IsRanked c.args.points 0 k (c.loop-index._index + 1) w.in-Some.next) here.counted

@@ -13,7 +13,7 @@ invariant_of-result g c = (
     lawful = c.own.ensures.lawful;
     pair = c.pair.ensures.lawful;
     leads = c.start_of-start.ensures.symmetry ∙ ap (symmetry_of g.B.Geometry.shape) c.other.ensures.points;
-    led = c.image-led.ensures.image;
+    canonical_form = c.image-canonical_form.ensures.image;
     start = rw (← c.own.ensures.points, ← c.other.ensures.points, ← c.count-count.ensures.value) c.start_of-start.ensures.start;
     few = c.start_of-start.ensures.few;
   },
@@ -21,5 +21,5 @@ invariant_of-result g c = (
   c.start_of-start.ensures.representative
       ∙ ap (λ x. image_of (g.B.Geometry.shape.image (symmetry_of g.B.Geometry.shape x)) x) c.other.ensures.points
       ∙ ap (λ t. image_of (g.B.Geometry.shape.image t) c.args.position.now.other) (sym (c.start_of-start.ensures.symmetry ∙ ap (symmetry_of g.B.Geometry.shape) c.other.ensures.points))
-      ∙ sym (ap (λ (s : Sides). s.other) c.image-led.ensures.image),
+      ∙ sym (ap (λ (s : Sides). s.other) c.image-canonical_form.ensures.image),
 )

@@ -8,6 +8,6 @@ use Rattle.morris_jobs.proofs.size.Size.of.Given as goal
 abbrev pub invariant-loop-below : goal.invariant-loop-below
 invariant-loop-below g l = record {
   split : l.yielded ++ l.below-iterator ≡ below_of l.fn.pair;
-  counted : sum_by (entries_of g.B.Geometry.shape g.B.Geometry.POINTS l.fn.layout l.fn.pair l.fn.way) l.yielded < 2 ^ 64
-      → l.size.entries ≡ sum_by (entries_of g.B.Geometry.shape g.B.Geometry.POINTS l.fn.layout l.fn.pair l.fn.way) l.yielded;
+  counted : sum_by (entries_of g.B.Geometry.shape g.B.Geometry.POINTS l.fn.layout l.fn.pair l.fn.plan) l.yielded < 2 ^ 64
+      → l.size.entries ≡ sum_by (entries_of g.B.Geometry.shape g.B.Geometry.POINTS l.fn.layout l.fn.pair l.fn.plan) l.yielded;
 }

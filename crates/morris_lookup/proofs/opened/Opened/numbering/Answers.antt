@@ -2,8 +2,8 @@ use Rattle.std.proofs.Common.{◌≤◌, length, ap, arith}
 use Rattle.morris_lookup.proofs.EntryLaws.{serve_few}
 use Rattle.morris_lookup.proofs.opened.Opened.numbering.Goals as goal
 
-pub returns-clause-serve : goal.returns-clause-serve
-returns-clause-serve g c = rw (c.as_slice.ensures.value, c.as_slice-2.ensures.value, c.as_slice-3.ensures.value, c.as_slice-4.ensures.value) c.self.invariant.1
+pub returns-clause-lists_fit : goal.returns-clause-lists_fit
+returns-clause-lists_fit g c = rw (c.as_slice.ensures.value, c.as_slice-2.ensures.value, c.as_slice-3.ensures.value, c.as_slice-4.ensures.value) c.self.invariant.1
 
 pub returns-clause-fits : goal.returns-clause-fits
 returns-clause-fits g c =

@@ -3,7 +3,7 @@ use Rattle.std.specs.Prelude.{IfSome}
 use Rattle.std.proofs.lemmas.Result.{err_from_is_err_and}
 use Rattle.morris_index.specs.Pairs.{Counts}
 use Rattle.morris_pairs.specs.declared.layout.Layout.{Layout}
-use Rattle.morris_lookup.specs.Opening.{framed_in}
+use Rattle.morris_lookup.specs.Opening.{check_file}
 use Rattle.morris_lookup.proofs.OpeningLaws.{alike, apart, opens_refused, kind_found, known_framed, other_pair}
 use Rattle.morris_lookup.proofs.opened.Opened.open.Goals as goal
 
@@ -18,7 +18,7 @@ returns-in_err-file-clause-complete g c = λ t raw pair known.
 pub returns-then-ne-clause-refused : goal.returns-then-ne-clause-refused
 returns-then-ne-clause-refused g c =
     other_pair g.B.Geometry.shape c.args.pair (g.S.Storage.contents c.args.storage) (c.in_ok-file.file.layout, c.in_ok-file.file.pair)
-    (subst (λ o. IfSome o (λ bytes. framed_in g.B.Geometry.shape bytes ≡ Ok (c.in_ok-file.file.layout, c.in_ok-file.file.pair))) c.in_ok-file.ensures.bytes (known_framed _ _ c.in_ok-file.ensures.right))
+    (subst (λ o. IfSome o (λ bytes. check_file g.B.Geometry.shape bytes ≡ Ok (c.in_ok-file.file.layout, c.in_ok-file.file.pair))) c.in_ok-file.ensures.bytes (known_framed _ _ c.in_ok-file.ensures.right))
     (λ same. apart _ _ (sym c.ne.ensures ∙ c.if-ne.true) (c.pair.ensures.value ∙ same))
 
 pub returns-then-ne-clause-complete : goal.returns-then-ne-clause-complete
@@ -26,7 +26,7 @@ returns-then-ne-clause-complete g c = λ t raw pair known.
     let few : g.B.Geometry.shape.points ≤ 24 = omega (arith, g.met.B.Geometry.point_count, g.met.B.Geometry.few) in
     let kind = kind_found g.B.Geometry.shape few g.met.B.Geometry.has_symmetries t raw (g.S.Storage.contents c.args.storage) known
     (c.in_ok-file.file.layout, c.in_ok-file.file.pair)
-    (subst (λ o. IfSome o (λ bytes. framed_in g.B.Geometry.shape bytes ≡ Ok (c.in_ok-file.file.layout, c.in_ok-file.file.pair))) c.in_ok-file.ensures.bytes (known_framed _ _ c.in_ok-file.ensures.right)) in
+    (subst (λ o. IfSome o (λ bytes. check_file g.B.Geometry.shape bytes ≡ Ok (c.in_ok-file.file.layout, c.in_ok-file.file.pair))) c.in_ok-file.ensures.bytes (known_framed _ _ c.in_ok-file.ensures.right)) in
     let same : c.pair.result ≡ c.args.pair = c.pair.ensures.value ∙ ap (λ (k : Layout × Counts). k.1) kind ∙ pair in
     absurd (apart _ _ (sym c.ne.ensures ∙ c.if-ne.true) same)
 
@@ -39,4 +39,4 @@ returns-clause-complete g c = λ t raw pair known.
     ap (λ (k : Layout × Counts). k.0)
     (kind_found g.B.Geometry.shape few g.met.B.Geometry.has_symmetries t raw (g.S.Storage.contents c.args.storage) known
     (c.in_ok-file.file.layout, c.in_ok-file.file.pair)
-    (subst (λ o. IfSome o (λ bytes. framed_in g.B.Geometry.shape bytes ≡ Ok (c.in_ok-file.file.layout, c.in_ok-file.file.pair))) c.in_ok-file.ensures.bytes (known_framed _ _ c.in_ok-file.ensures.right)))
+    (subst (λ o. IfSome o (λ bytes. check_file g.B.Geometry.shape bytes ≡ Ok (c.in_ok-file.file.layout, c.in_ok-file.file.pair))) c.in_ok-file.ensures.bytes (known_framed _ _ c.in_ok-file.ensures.right)))

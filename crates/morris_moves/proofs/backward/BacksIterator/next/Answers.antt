@@ -8,9 +8,9 @@ use Rattle.morris_board.specs.Boards.{Shape}
 use Rattle.morris_board.specs.Positions.{Sides}
 use Rattle.morris_board.proofs.PointsLaws.{count_of-le, has-without}
 use Rattle.morris_board.proofs.SetLaws.{count_of-first}
-use Rattle.morris_moves.specs.declared.step.Move.{Move}
+use Rattle.morris_moves.specs.declared.game_move.Move.{Move}
 use Rattle.morris_moves.specs.Rules.{move}
-use Rattle.morris_moves.specs.Backward.{before}
+use Rattle.morris_moves.specs.Backward.{unmove}
 use Rattle.morris_moves.specs.Listing.{AreVacant, AreTargets}
 use Rattle.morris_moves.proofs.BackListLaws.{target}
 use Rattle.morris_moves.proofs.ListingLaws.{back_next, source_next, backs_left_none}
@@ -37,13 +37,13 @@ fewer_vacant b q froms rest p e each u here = each u (stays froms rest p u e her
 fewer_targets : (b : Shape) (q : Sides) (u tos rest p : ℕ) → rest ≡ without_point tos p → AreTargets b q u tos → AreTargets b q u rest
 fewer_targets b q u tos rest p e each v here = each v (stays tos rest p v e here)
 
-pub before-requires-clause-end : goal.before-requires-clause-end
-before-requires-clause-end g c =
+pub unmove-requires-clause-end : goal.unmove-requires-clause-end
+unmove-requires-clause-end g c =
     let t = c.loop-to.invariant.ends c.in-Some.to c.in-Some.ensures.point.1 in
     (target g.B.Geometry.shape c.loop-to.self-inside.position c.loop-to.self-inside.from c.in-Some.to t.2).end
 
-pub before-requires-clause-enough : goal.before-requires-clause-enough
-before-requires-clause-enough g c =
+pub unmove-requires-clause-enough : goal.unmove-requires-clause-enough
+unmove-requires-clause-enough g c =
     let t = c.loop-to.invariant.ends c.in-Some.to c.in-Some.ensures.point.1 in
     (target g.B.Geometry.shape c.loop-to.self-inside.position c.loop-to.self-inside.from c.in-Some.to t.2).enough
 
@@ -59,7 +59,7 @@ pub returns-in-Some-clause-steps : goal.returns-in-Some-clause-steps
 returns-in-Some-clause-steps g c =
     let next : members c.loop-to.self-inside.to_left ≡ c.in-Some.to ∷ members c.without-self-inside.result =
     rw c.without-self-inside.ensures c.in-Some.ensures.rest in
-    let value : c.before-in-Some.result ≡ before c.loop-to.self-inside.position (move c.loop-to.self-inside.from c.in-Some.to None) = c.before-in-Some.ensures.value in
+    let value : c.unmove.result ≡ unmove c.loop-to.self-inside.position (move c.loop-to.self-inside.from c.in-Some.to None) = c.unmove.ensures.value in
     rw value (sym c.loop-to.invariant.same ∙ back_next g.B.Geometry.shape c.loop-to.self-inside.position c.loop-to.self-inside.from_left c.loop-to.self-inside.from
     c.loop-to.self-inside.to_left c.without-self-inside.result c.in-Some.to next)
 

@@ -4,7 +4,7 @@ use Rattle.std.proofs.Common.{◌≡◌, ℕ, suc, ◌+◌, ◌*◌, ◌<◌, �
 use Rattle.std.specs.Iterator.{MakesProgress, item_count}
 use Rattle.morris_board.specs.Sets.{members, count_of}
 use Rattle.morris_board.proofs.PointsLaws.{count_of-le}
-use Rattle.morris_moves.specs.declared.step.Move.{Move}
+use Rattle.morris_moves.specs.declared.game_move.Move.{Move}
 use Rattle.morris_moves.specs.Rules.{closes}
 use Rattle.morris_moves.proofs.SetLaws.{point_lt, without_point-lt, count_of-first}
 use Rattle.morris_moves.proofs.MaskLaws.{reach-lt}
@@ -55,8 +55,8 @@ loop-taken-smaller-in-Some-first g c =
     let next : members c.loop-taken.self-inside.to_left ≡ c.in-Some-first.to ∷ members c.without-self-inside-in-Some-first.result =
     rw c.without-self-inside-in-Some-first.ensures c.in-Some-first.ensures.rest in
     fewer_points (count_of c.loop-taken.self-inside.from_left) (count_of c.loop-taken.self-inside.to_left)
-    (count_of c.without-self-inside-in-Some-first.result) (count_of c.loop-taken.self-inside.take_left) (count_of c.takable-self-inside.result)
-    (count_of-first _ _ _ next) (count_of-le c.takable-self-inside.result)
+    (count_of c.without-self-inside-in-Some-first.result) (count_of c.loop-taken.self-inside.take_left) (count_of c.takable_stones-self-inside.result)
+    (count_of-first _ _ _ next) (count_of-le c.takable_stones-self-inside.result)
 
 pub loop-taken-preserved-in-Some-first : goal.loop-taken-preserved-in-Some-first
 loop-taken-preserved-in-Some-first g c =
@@ -65,7 +65,7 @@ loop-taken-preserved-in-Some-first g c =
     let shut : closes g.B.Geometry.shape c.loop-taken.self-inside.position.own c.loop-taken.self-inside.from c.in-Some-first.to ≡ true =
     rw (← c.own.ensures.points) (sym c.closes.ensures ∙ c.if-not-closes.false) in
     record {
-      same = rw (c.takable-self-inside.ensures, c.other.ensures.points)
+      same = rw (c.takable_stones-self-inside.ensures, c.other.ensures.points)
           (sym (closing_next g.B.Geometry.shape c.loop-taken.self-inside.position c.loop-taken.self-inside.from_left c.loop-taken.self-inside.from c.loop-taken.self-inside.to_left c.loop-taken.self-inside.to
           c.loop-taken.self-inside.take_left c.without-self-inside-in-Some-first.result c.in-Some-first.to c.in-None.ensures.rest next shut) ∙ c.loop-taken.invariant.same);
       stones = c.loop-taken.invariant.stones;

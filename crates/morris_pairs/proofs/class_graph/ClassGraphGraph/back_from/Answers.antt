@@ -6,24 +6,24 @@ use Rattle.morris_index.specs.Pairs.{IsPair}
 use Rattle.morris_pairs.proofs.GraphLaws.{are_nodes, times_all_at, nodes_at}
 use Rattle.morris_pairs.proofs.class_graph.ClassGraphGraph.back_from.Goals as goal
 
-pub list_before_all-requires : goal.list_before_all-requires
-list_before_all-requires g c =
+pub list_predecessors_of_all-requires : goal.list_predecessors_of_all-requires
+list_predecessors_of_all-requires g c =
     rw (c.self.invariant.classes, c.self.invariant.pair)
     (are_nodes g.B.Geometry.shape g.met.B.Geometry.is_lawful g.met.B.Geometry.has_symmetries g.B.Geometry.POINTS g.met.B.Geometry.point_count (order_of Classes) c.self.inside.graph
     (subst (λ n. IsPair n c.self.inside.graph) (sym g.met.B.Geometry.point_count) c.self.invariant.lawful) c.args.nodes.now (rw (← c.self.view_is) at c.requires))
 
 pub returns-clause-times : goal.returns-clause-times
 returns-clause-times g c =
-    rw (← c.self.view_is) (on_ok_weaker c.list_before_all.result
+    rw (← c.self.view_is) (on_ok_weaker c.list_predecessors_of_all.result
     (times_all_at g.B.Geometry.shape g.met.B.Geometry.is_lawful g.met.B.Geometry.has_symmetries g.B.Geometry.POINTS g.met.B.Geometry.point_count (order_of Classes) c.self.inside.graph
     (subst (λ n. IsPair n c.self.inside.graph) (sym g.met.B.Geometry.point_count) c.self.invariant.lawful)
-    c.list_before_all.new.out.items c.args.nodes.now)
-    (rw (c.self.invariant.classes, c.self.invariant.pair) at c.list_before_all.ensures.times))
+    c.list_predecessors_of_all.new.out.items c.args.nodes.now)
+    (rw (c.self.invariant.classes, c.self.invariant.pair) at c.list_predecessors_of_all.ensures.times))
 
 pub returns-clause-nodes : goal.returns-clause-nodes
 returns-clause-nodes g c =
-    rw (← c.self.view_is) (on_ok_weaker c.list_before_all.result
+    rw (← c.self.view_is) (on_ok_weaker c.list_predecessors_of_all.result
     (nodes_at g.B.Geometry.shape g.met.B.Geometry.is_lawful g.met.B.Geometry.has_symmetries g.B.Geometry.POINTS g.met.B.Geometry.point_count (order_of Classes) c.self.inside.graph
     (subst (λ n. IsPair n c.self.inside.graph) (sym g.met.B.Geometry.point_count) c.self.invariant.lawful)
-    c.list_before_all.new.out.items)
-    (rw (c.self.invariant.classes, c.self.invariant.pair) at c.list_before_all.ensures.nodes))
+    c.list_predecessors_of_all.new.out.items)
+    (rw (c.self.invariant.classes, c.self.invariant.pair) at c.list_predecessors_of_all.ensures.nodes))

@@ -15,13 +15,13 @@ returns-in-Full-clause-counted g c =
     let lawful : IsPair board.points entries.pair = rw (g.met.B.Geometry.point_count, ← c.self.view_is) c.pair.ensures.lawful in
     let inside : c.args.end ≤ entry_count board board.points entries.layout entries.pair =
     subst (λ n. c.args.end ≤ entry_count board n entries.layout entries.pair) (sym g.met.B.Geometry.point_count) c.requires.inside in
-    on_ok _ _ c.count_stretch.result
+    on_ok _ _ c.count_chunk.result
     (λ counted. for_some entries.stated _ (λ known is.
     tallied_one board few g.met.B.Geometry.has_symmetries (table_of entries known) lawful c.args.all
     (inr (rw (← c.self.view_is, c.in-Full.is) refl)) c.args.first c.args.end inside c.args.tallies.now
-    c.count_stretch.new.tallies c.requires.none
+    c.count_chunk.new.tallies c.requires.none
     (counted board (table_of entries known) c.args.all c.args.first (omega arith) (ap (λ (e : CodedEntries). e.stated) c.self.view_is ∙ is))))
-    c.count_stretch.ensures.counted
+    c.count_chunk.ensures.counted
 
 -- all positions that share an entry are asked for
 pub returns-in-Classes-clause-counted : goal.returns-in-Classes-clause-counted
@@ -44,18 +44,18 @@ returns-in-Classes-2-clause-counted g c =
     let lawful : IsPair board.points entries.pair = rw (g.met.B.Geometry.point_count, ← c.self.view_is) c.pair.ensures.lawful in
     let inside : c.args.end ≤ entry_count board board.points entries.layout entries.pair =
     subst (λ n. c.args.end ≤ entry_count board n entries.layout entries.pair) (sym g.met.B.Geometry.point_count) c.requires.inside in
-    on_ok _ _ c.count_stretch-in-Classes-2.result
+    on_ok _ _ c.count_chunk-in-Classes-2.result
     (λ counted. for_some entries.stated _ (λ known is.
     tallied_one board few g.met.B.Geometry.has_symmetries (table_of entries known) lawful c.args.all
     (inl c.if-all.false) c.args.first c.args.end inside c.args.tallies.now
-    c.count_stretch-in-Classes-2.new.tallies c.requires.none
+    c.count_chunk-in-Classes-2.new.tallies c.requires.none
     (counted board (table_of entries known) c.args.all c.args.first (omega arith) (ap (λ (e : CodedEntries). e.stated) c.self.view_is ∙ is))))
-    c.count_stretch-in-Classes-2.ensures.counted
+    c.count_chunk-in-Classes-2.ensures.counted
 
 -- 16 positions for each of 2 ^ 40 entries are few
 pub returns-in-Full-clause-small : goal.returns-in-Full-clause-small
 returns-in-Full-clause-small g c =
-    on_ok _ _ c.count_stretch.result (λ small code. omega (arith, small code, c.count.ensures.few, c.count.ensures.value, rw (← c.self.view_is) at c.requires.inside)) c.count_stretch.ensures.small
+    on_ok _ _ c.count_chunk.result (λ small code. omega (arith, small code, c.count.ensures.few, c.count.ensures.value, rw (← c.self.view_is) at c.requires.inside)) c.count_chunk.ensures.small
 
 pub returns-in-Classes-clause-small : goal.returns-in-Classes-clause-small
 returns-in-Classes-clause-small g c =
@@ -63,5 +63,5 @@ returns-in-Classes-clause-small g c =
 
 pub returns-in-Classes-2-clause-small : goal.returns-in-Classes-2-clause-small
 returns-in-Classes-2-clause-small g c =
-    on_ok _ _ c.count_stretch-in-Classes-2.result (λ small code. omega (arith, small code, c.count.ensures.few, c.count.ensures.value, rw (← c.self.view_is) at c.requires.inside))
-    c.count_stretch-in-Classes-2.ensures.small
+    on_ok _ _ c.count_chunk-in-Classes-2.result (λ small code. omega (arith, small code, c.count.ensures.few, c.count.ensures.value, rw (← c.self.view_is) at c.requires.inside))
+    c.count_chunk-in-Classes-2.ensures.small

@@ -1,6 +1,6 @@
 use Rattle.std.proofs.Common.{◌&&◌, not, sym, ap, ◌∙◌}
 use Rattle.morris_board.specs.Sets.{has, members}
-use Rattle.morris_moves.specs.Rules.{takable}
+use Rattle.morris_moves.specs.Rules.{takable_stones}
 use Rattle.morris_pairs.specs.Graphs.{exits_by}
 use Rattle.morris_pairs.proofs.BackLawsLoops.{end_of, next_points, none_left}
 use Rattle.morris_pairs.proofs.GraphLaws.{exits_by-none}
@@ -14,13 +14,13 @@ capture_ends-requires-clause-closing g c = λ v.
 
 pub loop-taken-init : goal.loop-taken-init
 loop-taken-init g c = record {
-  points = ap members (c.into_iter-taken-iterator.ensures.into_iter_gives ∙ (c.iter-taken-items.ensures.points ∙ (c.takable.ensures ∙ ap (takable g.B.Geometry.shape) c.other.ensures.points)));
+  points = ap members (c.into_iter-taken-iterator.ensures.into_iter_gives ∙ (c.iter-taken-items.ensures.points ∙ (c.takable_stones.ensures ∙ ap (takable_stones g.B.Geometry.shape) c.other.ensures.points)));
   summed = sym (exits_by-none g.B.Geometry.shape c.args.position.now);
 }
 
 pub with_captures-exits-requires-clause-taken : goal.with_captures-exits-requires-clause-taken
 with_captures-exits-requires-clause-taken g c =
-    end_of (takable g.B.Geometry.shape c.args.position.now.other) c.in-Some.taken c.loop-taken.yielded _ _ c.loop-taken.invariant.points c.in-Some.ensures.steps
+    end_of (takable_stones g.B.Geometry.shape c.args.position.now.other) c.in-Some.taken c.loop-taken.yielded _ _ c.loop-taken.invariant.points c.in-Some.ensures.steps
 
 pub loop-taken-preserved : goal.loop-taken-preserved
 loop-taken-preserved g c = record {

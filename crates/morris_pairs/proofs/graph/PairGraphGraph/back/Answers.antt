@@ -11,14 +11,14 @@ position-requires g c =
 
 pub returns-clause-times : goal.returns-clause-times
 returns-clause-times g c =
-    rw (← c.self.view_is) (on_ok_weaker c.list_entries_before.result
+    rw (← c.self.view_is) (on_ok_weaker c.list_predecessors.result
     (times_at g.B.Geometry.shape g.met.B.Geometry.is_lawful g.met.B.Geometry.has_symmetries g.B.Geometry.POINTS g.met.B.Geometry.point_count (order_of Full) c.self.inside.pair c.self.invariant.lawful
-    c.position.result c.list_entries_before.new.out.items c.args.i c.position.ensures.index)
-    c.list_entries_before.ensures.times)
+    c.position.result c.list_predecessors.new.out.items c.args.i c.position.ensures.index)
+    c.list_predecessors.ensures.times)
 
 pub returns-clause-nodes : goal.returns-clause-nodes
 returns-clause-nodes g c =
-    rw (← c.self.view_is) (on_ok_weaker c.list_entries_before.result
+    rw (← c.self.view_is) (on_ok_weaker c.list_predecessors.result
     (nodes_at g.B.Geometry.shape g.met.B.Geometry.is_lawful g.met.B.Geometry.has_symmetries g.B.Geometry.POINTS g.met.B.Geometry.point_count (order_of Full) c.self.inside.pair c.self.invariant.lawful
-    c.list_entries_before.new.out.items)
-    c.list_entries_before.ensures.nodes)
+    c.list_predecessors.new.out.items)
+    c.list_predecessors.ensures.nodes)

@@ -41,19 +41,19 @@ overflow_add-first-then-place-counts g c =
     let at = (goal.at.overflow_add-first-then-place-counts g c).After-size in
     omega (arith, inside g at, few g at, c.loop-place-test.true, c.loop-place.invariant.counts_len)
 
-pub following-position-requires-clause-counts : goal.following-position-requires-clause-counts
-following-position-requires-clause-counts g c = subst (λ d. is_of d c.loop-place.position ≡ true) (sym c.self.view_is) c.loop-place.invariant.counts
+pub next_position-position-requires-clause-counts : goal.next_position-position-requires-clause-counts
+next_position-position-requires-clause-counts g c = subst (λ d. is_of d c.loop-place.position ≡ true) (sym c.self.view_is) c.loop-place.invariant.counts
 
-pub following-position-requires-clause-before : goal.following-position-requires-clause-before
-following-position-requires-clause-before g c =
+pub next_position-position-requires-clause-before : goal.next_position-position-requires-clause-before
+next_position-position-requires-clause-before g c =
     ap (λ k. k + 1) (subst (λ d. index_of g.B.Geometry.POINTS d c.loop-place.position ≡ c.args.first + c.loop-place.place) (sym c.self.view_is) (c.loop-place.invariant.at (omega arith)))
 
-pub following-position-requires-clause-inside : goal.following-position-requires-clause-inside
-following-position-requires-clause-inside g c =
+pub next_position-position-requires-clause-inside : goal.next_position-position-requires-clause-inside
+next_position-position-requires-clause-inside g c =
     let low : c.args.first + c.loop-place.place + 1 < size_of g.B.Geometry.POINTS c.self.inside.pair =
     omega (
       arith,
-      inside g (goal.at.following-position-requires-clause-inside g c).After-size,
+      inside g (goal.at.next_position-position-requires-clause-inside g c).After-size,
       c.if-place-counts.true,
       c.loop-place.invariant.counts_len,
       length-set c.loop-place.counts c.loop-place.place c.quiet_moves.result,
@@ -97,9 +97,9 @@ loop-place-preserved g c =
         exits_len = exits_len;
         quiet = quiet;
         outside = outside;
-        at = λ _. ap (λ d. index_of g.B.Geometry.POINTS d w.following-position.result) (sym c.self.view_is) ∙ w.following-position.ensures.index ∙ omega arith;
-        counts = subst (λ d. is_of d w.following-position.result ≡ true) c.self.view_is w.following-position.ensures.counts;
-        lawful = w.following-position.ensures.lawful;
+        at = λ _. ap (λ d. index_of g.B.Geometry.POINTS d w.next_position-position.result) (sym c.self.view_is) ∙ w.next_position-position.ensures.index ∙ omega arith;
+        counts = subst (λ d. is_of d w.next_position-position.result ≡ true) c.self.view_is w.next_position-position.ensures.counts;
+        lawful = w.next_position-position.ensures.lawful;
         row = w.follow.ensures.row;
         own = w.follow.ensures.own;
       })

@@ -6,7 +6,7 @@ pub overflow_sub-result : goal.overflow_sub-result
 overflow_sub-result g c =
     omega (
       arith,
-      quiet_by_numbers g.B.Geometry.shape g.B.Geometry.POINTS g.met.B.Geometry.point_count (omega (arith, g.met.B.Geometry.few)) c.args.self.now c.requires.kept
+      quiet_by_numbers g.B.Geometry.shape g.B.Geometry.POINTS g.met.B.Geometry.point_count (omega (arith, g.met.B.Geometry.few)) c.args.self.now c.requires.cache
           c.args.numbers c.requires.stands.0 c.requires.stands.1,
       c.sum_over.ensures,
     )
@@ -15,7 +15,7 @@ pub returns : goal.returns
 returns g c = λ s at.
     omega (
       arith,
-      quiet_by_numbers g.B.Geometry.shape g.B.Geometry.POINTS g.met.B.Geometry.point_count (omega (arith, g.met.B.Geometry.few)) c.args.self.now c.requires.kept
+      quiet_by_numbers g.B.Geometry.shape g.B.Geometry.POINTS g.met.B.Geometry.point_count (omega (arith, g.met.B.Geometry.few)) c.args.self.now c.requires.cache
           c.args.numbers s at,
       c.sum_over.ensures,
     )

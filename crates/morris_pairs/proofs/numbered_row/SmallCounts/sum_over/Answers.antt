@@ -7,9 +7,9 @@ pub returns : goal.returns
 returns c =
     omega (
       arith,
-      count_common c.args.numbers c.args.self.ones c.common.result c.common.ensures,
-      count_common c.args.numbers c.args.self.twos c.common-2.result c.common-2.ensures,
-      count_common c.args.numbers c.args.self.fours c.common-3.result c.common-3.ensures,
-      count_common c.args.numbers c.args.self.eights c.common-4.result c.common-4.ensures,
+      count_common c.args.numbers c.args.self.ones c.intersection.result c.intersection.ensures,
+      count_common c.args.numbers c.args.self.twos c.intersection-2.result c.intersection-2.ensures,
+      count_common c.args.numbers c.args.self.fours c.intersection-3.result c.intersection-3.ensures,
+      count_common c.args.numbers c.args.self.eights c.intersection-4.result c.intersection-4.ensures,
       sum_digits c.args.self (members c.args.numbers),
     )

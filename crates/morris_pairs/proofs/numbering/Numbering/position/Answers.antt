@@ -2,8 +2,8 @@ use Rattle.std.proofs.Common.{◌≡◌, sym, ap, ◌∙◌}
 use Rattle.std.proofs.lemmas.Bool.{eq-eqb}
 use Rattle.morris_board.specs.Positions.{Sides}
 use Rattle.morris_index.specs.Classes.{representative_of}
-use Rattle.morris_index.specs.ClassPairs.{led}
-use Rattle.morris_index.proofs.ClassPairLaws.{led_own}
+use Rattle.morris_index.specs.ClassPairs.{canonical_form}
+use Rattle.morris_index.proofs.ClassPairLaws.{canonical_own}
 use Rattle.morris_pairs.proofs.numbering.Numbering.position.Goals as goal
 
 -- the position of an entry is led to itself, so it has a representative for its own set
@@ -11,8 +11,8 @@ pub returns-in-Classes-clause-own : goal.returns-in-Classes-clause-own
 returns-in-Classes-clause-own g c =
     let board = g.B.Geometry.shape in
     let p : Sides = c.position-in-Classes.result in
-    let itself : p ≡ led board p = c.position-in-Classes.ensures.led p c.position-in-Classes.ensures.lawful c.position-in-Classes.ensures.counts c.position-in-Classes.ensures.index in
+    let itself : p ≡ canonical_form board p = c.position-in-Classes.ensures.canonical_form p c.position-in-Classes.ensures.lawful c.position-in-Classes.ensures.counts c.position-in-Classes.ensures.index in
     rw c.in-Classes.is
     (eq-eqb (representative_of board p.own) p.own
     (sym (ap (λ (s : Sides). s.own) itself
-    ∙ led_own board g.B.Geometry.POINTS g.met.B.Geometry.few g.met.B.Geometry.point_count g.met.B.Geometry.has_symmetries p c.position-in-Classes.ensures.lawful)))
+    ∙ canonical_own board g.B.Geometry.POINTS g.met.B.Geometry.few g.met.B.Geometry.point_count g.met.B.Geometry.has_symmetries p c.position-in-Classes.ensures.lawful)))

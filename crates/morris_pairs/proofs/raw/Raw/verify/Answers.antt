@@ -10,6 +10,6 @@ returns-in-Err g c =
 
 pub returns : goal.returns
 returns g c =
-    let judged = c.judged.ensures in
-    verifies_judged g.row.B.Denot g.B.Geometry.shape g.B.Geometry.POINTS (first_missing c.args.shelf.now c.args.self.pair) c.args.self c.judged.result
+    let judged = c.judge.ensures in
+    verifies_judged g.row.B.Denot g.B.Geometry.shape g.B.Geometry.POINTS (first_missing c.args.shelf.now c.args.self.pair) c.args.self c.judge.result
     (ap (first_missing c.args.shelf.now) (sym c.pair.ensures.value) ∙ c.in-Ok.ensures.needs) judged.exact judged.value judged.differs judged.given_back judged.agreement

@@ -54,11 +54,11 @@ returns-clause-codes g c =
     split_is b lawful y n few points d here.lawful here.two c.self.inside.classes here.pair c.first_half.result c.first_half.ensures.value in
     let fits : c.first_half.result ≤ length nodes =
     omega (arith, split, sym c.args.codes.ok.0 ∙ c.requires.len, size_at b lawful y n points Rows d pair, size-two_halves b n few points y d here.lawful here.two) in
-    let kept : c.reserve_exact.new.self.items ≡ take c.first_half.result nodes =
+    let cache : c.reserve_exact.new.self.items ≡ take c.first_half.result nodes =
     subst (λ xs. c.reserve_exact.new.self.items ≡ xs) c.truncate.ensures.items c.in_ok-reserve_exact.ensures.items in
-    let made : c.extend_from_slice.new.self.items ≡ take c.first_half.result nodes ++ c.args.behind.now =
-    subst (λ xs. c.extend_from_slice.new.self.items ≡ xs ++ c.args.behind.now) kept c.in_ok-extend_from_slice.ensures.items in
+    let made : c.extend_from_slice.new.self.items ≡ take c.first_half.result nodes ++ c.args.second_half.now =
+    subst (λ xs. c.extend_from_slice.new.self.items ≡ xs ++ c.args.second_half.now) cache c.in_ok-extend_from_slice.ensures.items in
     subst (λ xs. (i : ℕ) → i < (net_at b (level_in Classes d)).size → HasCode (net_at b (level_in Classes d)) i (get_or xs i 0)) (sym made)
-    (entry_codes b lawful y n few points d here.lawful here.two nodes c.args.behind.now c.first_half.result split fits (length c.args.behind.now)
-    (omega (arith, split, c.requires.rest)) c.requires.behind (subst (HasValuesIn b Rows) c.self.view_is (c.values.ensures.values Rows))
+    (entry_codes b lawful y n few points d here.lawful here.two nodes c.args.second_half.now c.first_half.result split fits (length c.args.second_half.now)
+    (omega (arith, split, c.requires.rest)) c.requires.second_half (subst (HasValuesIn b Rows) c.self.view_is (c.values.ensures.values Rows))
     (subst (HasValuesIn b Classes) c.self.view_is (c.values.ensures.values Classes)) c.requires.codes)

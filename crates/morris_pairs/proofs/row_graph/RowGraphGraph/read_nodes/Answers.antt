@@ -68,9 +68,9 @@ returns-then-end-split-clause-exits g c = λ k low.
 
 -- a piece of the second half
 
-pub read_turned-requires-clause-inside : goal.read_turned-requires-clause-inside
-read_turned-requires-clause-inside g c =
-    let at = (goal.at.read_turned-requires-clause-inside g c).After-first_half-split in
+pub read_swapped-requires-clause-inside : goal.read_swapped-requires-clause-inside
+read_swapped-requires-clause-inside g c =
+    let at = (goal.at.read_swapped-requires-clause-inside g c).After-first_half-split in
     omega (
       arith,
       c.if-split-first.true,
@@ -85,13 +85,13 @@ pub returns-then-split-first-clause-counts : goal.returns-then-split-first-claus
 returns-then-split-first-clause-counts g c = λ k low.
     let place : class_half_size g.B.Geometry.shape g.B.Geometry.POINTS c.args.self.now.greater c.args.self.now.lesser + (c.args.first - c.first_half-split.result + k) ≡ c.args.first + k =
     omega (arith, split g (goal.at.returns-then-split-first-clause-counts g c).After-first_half-split, c.if-split-first.true) in
-    c.read_turned.ensures.counts k low ∙ ap (λ i. length ((net_at g.B.Geometry.shape (level_in Rows c.args.self.now)).quiet i)) place
+    c.read_swapped.ensures.counts k low ∙ ap (λ i. length ((net_at g.B.Geometry.shape (level_in Rows c.args.self.now)).quiet i)) place
 
 pub returns-then-split-first-clause-exits : goal.returns-then-split-first-clause-exits
 returns-then-split-first-clause-exits g c = λ k low.
     let place : class_half_size g.B.Geometry.shape g.B.Geometry.POINTS c.args.self.now.greater c.args.self.now.lesser + (c.args.first - c.first_half-split.result + k) ≡ c.args.first + k =
     omega (arith, split g (goal.at.returns-then-split-first-clause-exits g c).After-first_half-split, c.if-split-first.true) in
-    c.read_turned.ensures.exits k low ∙ ap (λ i. exits_of ((net_at g.B.Geometry.shape (level_in Rows c.args.self.now)).exits i)) place
+    c.read_swapped.ensures.exits k low ∙ ap (λ i. exits_of ((net_at g.B.Geometry.shape (level_in Rows c.args.self.now)).exits i)) place
 
 -- a piece of both
 

@@ -27,10 +27,10 @@ loop-to-preserved g c =
       arith,
       c.from-count.ensures,
       c.count.ensures.value,
-      count-quiet g.B.Geometry.shape c.args.own c.loop-to.to c.arriving-quiet.result.0 c.arriving-quiet.ensures.quiet,
+      count-quiet g.B.Geometry.shape c.args.own c.loop-to.to c.arrivals_and_closers-quiet.result.0 c.arrivals_and_closers-quiet.ensures.quiet,
     ) in
-    let kept : (u : ℕ) → has c.mask.result u ≡ (has c.args.own u && is_closing_end g.B.Geometry.shape c.args.own u c.loop-to.to) =
-    λ u. ap (λ s. has s u) c.mask.ensures ∙ c.arriving-quiet.ensures.closing u in
+    let cache : (u : ℕ) → has c.mask.result u ≡ (has c.args.own u && is_closing_end g.B.Geometry.shape c.args.own u c.loop-to.to) =
+    λ u. ap (λ s. has s u) c.mask.ensures ∙ c.arrivals_and_closers-quiet.ensures.closing u in
     record {
       len = length-set c.loop-to.arrivals c.loop-to.to c.from-count.result ∙ c.loop-to.invariant.len;
       each = each_more (arrivals g.B.Geometry.shape c.args.own) c.loop-to.arrivals c.loop-to.to c.from-count.result
@@ -45,17 +45,17 @@ loop-to-preserved g c =
       few = omega (arith, c.loop-to.invariant.few, c.count.ensures.few, c.from-count.ensures);
       closers_len = length-set c.loop-to.closers c.loop-to.to c.mask.result ∙ c.loop-to.invariant.closers_len;
       closers = holds_more (λ v x. (u : ℕ) → has x u ≡ (has c.args.own u && is_closing_end g.B.Geometry.shape c.args.own u v)) c.loop-to.closers c.loop-to.to c.mask.result
-          (omega (arith, c.loop-to.invariant.closers_len, g.met.B.Geometry.few)) kept c.loop-to.invariant.closers;
+          (omega (arith, c.loop-to.invariant.closers_len, g.met.B.Geometry.few)) cache c.loop-to.invariant.closers;
       closing = elim c.if-ne.branch [
         | then-ne w ↦
             rw (w.closing-is, w.with-closing.ensures)
             (below-yes (may_close g.B.Geometry.shape c.args.own) c.loop-to.closing c.loop-to.to c.loop-to.invariant.closing
-            (closing-some g.B.Geometry.shape c.args.own c.loop-to.to c.arriving-quiet.result.1 c.arriving-quiet.ensures.closing
-            (some_mask c.arriving-quiet.result.1 (sym c.ne.ensures ∙ w.if-ne.true)) (omega arith)))
+            (closing-some g.B.Geometry.shape c.args.own c.loop-to.to c.arrivals_and_closers-quiet.result.1 c.arrivals_and_closers-quiet.ensures.closing
+            (some_mask c.arrivals_and_closers-quiet.result.1 (sym c.ne.ensures ∙ w.if-ne.true)) (omega arith)))
         | else-ne w ↦
             rw w.closing-is
             (below-no (may_close g.B.Geometry.shape c.args.own) c.loop-to.closing c.loop-to.to c.loop-to.invariant.closing
-            (closing-none g.B.Geometry.shape c.args.own c.loop-to.to c.arriving-quiet.result.1 c.arriving-quiet.ensures.closing
-            (no_mask c.arriving-quiet.result.1 (sym c.ne.ensures ∙ w.if-ne.false))))
+            (closing-none g.B.Geometry.shape c.args.own c.loop-to.to c.arrivals_and_closers-quiet.result.1 c.arrivals_and_closers-quiet.ensures.closing
+            (no_mask c.arrivals_and_closers-quiet.result.1 (sym c.ne.ensures ∙ w.if-ne.false))))
       ];
     }

@@ -19,10 +19,10 @@ loop-point-preserved g c =
     let inv = c.loop-point.invariant in
     let point : ℕ = c.loop-point.point in
     let f : ℕ → ℕ = λ v. arrivals g.B.Geometry.shape c.args.own v % 16 in
-    let kept : ℕ → ℕ = count_at c.loop-point.arrivals in
+    let tabled : ℕ → ℕ = count_at c.loop-point.arrivals in
     let next : ℕ → ℕ = count_at c.with-arrivals.result in
     let is : slice_index c.of-row.result.arrivals point % 16 ≡ f point = ap (λ k. k % 16) (c.of-row.ensures.row.each point (omega arith) ∙ ap (λ o. arrivals g.B.Geometry.shape o point) c.of-row.ensures.own) in
     record {
-      each = counted_more f kept next point _ c.with-arrivals.ensures inv.none is inv.each;
-      none = none_more f kept next point _ c.with-arrivals.ensures inv.none;
+      each = counted_more f tabled next point _ c.with-arrivals.ensures inv.none is inv.each;
+      none = none_more f tabled next point _ c.with-arrivals.ensures inv.none;
     }

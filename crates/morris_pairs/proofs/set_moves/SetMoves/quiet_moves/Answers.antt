@@ -11,7 +11,7 @@ overflow_sub-result g c =
       arith,
       c.sum_over.ensures,
       ap (λ o. sum_by (count_at c.args.self.now.arrivals) (members o)) c.other.ensures.points,
-      quiet_by_set g.B.Geometry.shape g.B.Geometry.POINTS g.met.B.Geometry.point_count (omega (arith, g.met.B.Geometry.few)) c.args.self.now c.requires.kept c.args.position.now
+      quiet_by_set g.B.Geometry.shape g.B.Geometry.POINTS g.met.B.Geometry.point_count (omega (arith, g.met.B.Geometry.few)) c.args.self.now c.requires.tabled c.args.position.now
           c.other.ensures.lawful c.requires.own,
     )
 
@@ -21,6 +21,6 @@ returns g c =
       arith,
       c.sum_over.ensures,
       ap (λ o. sum_by (count_at c.args.self.now.arrivals) (members o)) c.other.ensures.points,
-      quiet_by_set g.B.Geometry.shape g.B.Geometry.POINTS g.met.B.Geometry.point_count (omega (arith, g.met.B.Geometry.few)) c.args.self.now c.requires.kept c.args.position.now
+      quiet_by_set g.B.Geometry.shape g.B.Geometry.POINTS g.met.B.Geometry.point_count (omega (arith, g.met.B.Geometry.few)) c.args.self.now c.requires.tabled c.args.position.now
           c.other.ensures.lawful c.requires.own,
     )

@@ -1,7 +1,7 @@
-use Rattle.morris_pairs.specs.SetMoves.{AreSetsKept}
+use Rattle.morris_pairs.specs.SetMoves.{AreSetsTabled}
 use Rattle.morris_pairs.proofs.set_moves.SetTable.make.Given as goal
 
 abbrev pub invariant-loop-mask : goal.invariant-loop-mask
 invariant-loop-mask g l = record {
-  kept : AreSetsKept g.B.Geometry.shape g.B.Geometry.POINTS l.table;
+  tabled : AreSetsTabled g.B.Geometry.shape g.B.Geometry.POINTS l.table;
 }

@@ -13,8 +13,8 @@ returns-in_err-take-clause-taken g c =
     rw (failed.1, failed.2)
     (λ name known start read here.
     feed_stops g.B.Geometry.shape name known c.args.self.now.show (omega (arith, g.met.B.Geometry.few, g.met.B.Geometry.point_count)) read start (g.O.Sink.contents c.args.self.now.output.now)
-    (g.O.Sink.contents c.answer_text-answered.new.output) c.args.self.now.line.items c.args.self.now.tally c.take.new.self c.answer_text-answered.result c.in_err-take.field-0.0
-    asked (rw (c.text_of-text.ensures, c.as_slice.ensures.value) at (c.answer_text-answered.ensures.answer name known here.of)) c.in_err-take.ensures here.to)
+    (g.O.Sink.contents c.answer_string-answered.new.output) c.args.self.now.line.items c.args.self.now.tally c.take.new.self c.answer_string-answered.result c.in_err-take.field-0.0
+    asked (rw (c.text_of-text.ensures, c.as_slice.ensures.value) at (c.answer_string-answered.ensures.answer name known here.of)) c.in_err-take.ensures here.to)
 
 pub returns-clause-taken : goal.returns-clause-taken
 returns-clause-taken g c = elim c.if-not-is_passed_over.branch [
@@ -22,11 +22,11 @@ returns-clause-taken g c = elim c.if-not-is_passed_over.branch [
       let asked : is_passed_over (text_in c.args.self.now.line.items) ≡ false =
       ap is_passed_over (ap text_in (sym c.as_slice.ensures.value) ∙ sym c.text_of-text.ensures) ∙ (sym c.is_passed_over.ensures ∙ w.if-not-is_passed_over.true) in
       rw w.self-is (record {
-        of = w.answer_text-answered.ensures.stays.still name known here.of;
+        of = w.answer_string-answered.ensures.stays.still name known here.of;
         to =
             read_feed g.B.Geometry.shape name known c.args.self.now.show (omega (arith, g.met.B.Geometry.few, g.met.B.Geometry.point_count)) read start (g.O.Sink.contents c.args.self.now.output.now)
-            (g.O.Sink.contents w.answer_text-answered.new.output) c.args.self.now.line.items c.clear.new.self.items c.args.self.now.tally w.take.new.self w.answer_text-answered.result
-            asked (rw (c.text_of-text.ensures, c.as_slice.ensures.value) at (w.answer_text-answered.ensures.answer name known here.of)) w.in_ok-take.ensures c.clear.ensures here.to;
+            (g.O.Sink.contents w.answer_string-answered.new.output) c.args.self.now.line.items c.clear.new.self.items c.args.self.now.tally w.take.new.self w.answer_string-answered.result
+            asked (rw (c.text_of-text.ensures, c.as_slice.ensures.value) at (w.answer_string-answered.ensures.answer name known here.of)) w.in_ok-take.ensures c.clear.ensures here.to;
       })
   | else-not-is_passed_over w ↦ λ name known start read here.
       let passed : is_passed_over (text_in c.args.self.now.line.items) ≡ true =

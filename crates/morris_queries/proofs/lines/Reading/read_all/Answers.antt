@@ -3,16 +3,16 @@ use Rattle.std.specs.Io.KnownBytes.{Consumes}
 use Rattle.std.proofs.KnownBytes.{Consumes-nil, Consumes-trans, Keeps-refl}
 use Rattle.std.proofs.lemmas.List.{length-take-le}
 use Rattle.std.proofs.lemmas.Result.{err_from_is_err_and}
-use Rattle.morris_queries.specs.InputLines.{texts_in}
+use Rattle.morris_queries.specs.InputLines.{strings_in}
 use Rattle.morris_queries.proofs.AnswerLaws.{all_out}
 use Rattle.morris_queries.proofs.LineAnswerLaws.{lines_stopped, lines_unread, stops_later}
 use Rattle.morris_queries.proofs.ReadingLaws.{reading_here, reading_on, stopped_reads}
 use Rattle.morris_queries.proofs.lines.Reading.read_all.Goals as goal
 
 -- the last read gave nothing
-consumed_all : (before mid after : Option (List ℕ)) (read piece : List ℕ) (n : ℕ) → Consumes before mid read → n ≡ 0 → Consumes mid after (take n piece) → Consumes before after read
-consumed_all before mid after read piece n got none last =
-    subst (Consumes before after) (append-nil read) (Consumes-trans before mid after read [] got (subst (λ k. Consumes mid after (take k piece)) none last))
+consumed_all : (before mid after : Option (List ℕ)) (read chunk : List ℕ) (n : ℕ) → Consumes before mid read → n ≡ 0 → Consumes mid after (take n chunk) → Consumes before after read
+consumed_all before mid after read chunk n got none last =
+    subst (Consumes before after) (append-nil read) (Consumes-trans before mid after read [] got (subst (λ k. Consumes mid after (take k chunk)) none last))
 
 pub loop-init : goal.loop-init
 loop-init g c = record {
@@ -47,7 +47,7 @@ returns-in-Ok-eq0-clause-answer g c = λ name known start here.
       so_far.0,
       consumed_all _ (g.I.Source.remaining c.loop.input) _ so_far.0 c.read.new.buffer _ so_far.1 c.in-Ok-eq0.field-0-test c.in-Ok-eq0.ensures.bytes.0,
       c.in-Ok-eq0.ensures.bytes.1 c.in-Ok-eq0.field-0-test room,
-      all_out g.B.Geometry.shape name known c.args.self.now.show (texts_in so_far.0) start (g.O.Sink.contents c.end_line.new.self.output.now) c.end_line.new.self.tally
+      all_out g.B.Geometry.shape name known c.args.self.now.show (strings_in so_far.0) start (g.O.Sink.contents c.end_line.new.self.output.now) c.end_line.new.self.tally
           (rw (c.in_ok-end_line-in-Ok-eq0.ensures.stays.show, c.loop.invariant.stays.show) at ended.to.out),
     )
 

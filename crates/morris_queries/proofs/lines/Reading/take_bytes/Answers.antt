@@ -1,7 +1,7 @@
 use Rattle.std.proofs.Common.{◌+◌, ◌∙◌, ◌++◌, List, ℕ, append-nil, arith, drop, refl, subst, sym, take}
 use Rattle.std.proofs.lemmas.List.{take_all}
 use Rattle.std.proofs.lemmas.Result.{err_from_is_err_and}
-use Rattle.morris_queries.specs.InputLines.{texts_ended}
+use Rattle.morris_queries.specs.InputLines.{strings_ended}
 use Rattle.morris_queries.specs.LineAnswers.{StopsIn}
 use Rattle.morris_queries.specs.Readings.{Stands}
 use Rattle.morris_queries.proofs.LineAnswerLaws.{read_more, read_rest, stops_later}
@@ -27,9 +27,9 @@ returns-in_err-take_byte-clause-taken g c =
     let new = g.O.Sink.contents c.take_byte.new.self.output.now in
     let stops = (rw c.loop-byte.invariant.stays.show at (c.in_err-take_byte.ensures.taken name known start (read ++ take i c.args.bytes.now)
     (c.loop-byte.invariant.read name known start read here))) in
-    let here = subst (λ (bs : List ℕ). StopsIn g.B.Geometry.shape name known c.args.self.now.show (texts_ended bs) start new c.in_err-take_byte.field-0.0)
+    let here = subst (λ (bs : List ℕ). StopsIn g.B.Geometry.shape name known c.args.self.now.show (strings_ended bs) start new c.in_err-take_byte.field-0.0)
     (read_more read c.args.bytes.now i c.loop-byte-test.true) stops in
-    subst (λ (bs : List ℕ). StopsIn g.B.Geometry.shape name known c.args.self.now.show (texts_ended bs) start new c.in_err-take_byte.field-0.0)
+    subst (λ (bs : List ℕ). StopsIn g.B.Geometry.shape name known c.args.self.now.show (strings_ended bs) start new c.in_err-take_byte.field-0.0)
     (read_rest read c.args.bytes.now (i + 1))
     (stops_later g.B.Geometry.shape name known c.args.self.now.show (read ++ take (i + 1) c.args.bytes.now) (drop (i + 1) c.args.bytes.now) start new
     c.in_err-take_byte.field-0.0 here))

@@ -1,6 +1,6 @@
 use Rattle.morris_queries.proofs.TellingLaws.{agreed}
 use Rattle.std.proofs.Common.{refl, ap, ◌∙◌}
-use Rattle.morris_queries.specs.Telling.{table_in}
+use Rattle.morris_queries.specs.Reports.{table_in}
 use Rattle.morris_queries.proofs.FolderLaws.{stays_with}
 use Rattle.morris_queries.proofs.values.Folder.make_ready.Goals as goal
 

@@ -5,7 +5,7 @@ use Rattle.morris_queries.proofs.OpenLaws.{found_known, opened_named}
 use Rattle.morris_queries.proofs.values.Folder.open_file.Goals as goal
 
 pub returns-in-Ok-clause-stays : goal.returns-in-Ok-clause-stays
-returns-in-Ok-clause-stays g c = stays_asked g.B.Geometry.shape g.L.Library.files c.args.self.now _ refl refl refl c.in-Ok.ensures.kept
+returns-in-Ok-clause-stays g c = stays_asked g.B.Geometry.shape g.L.Library.files c.args.self.now _ refl refl refl c.in-Ok.ensures.unchanged
 
 pub returns-in-Ok-clause-opened : goal.returns-in-Ok-clause-opened
 returns-in-Ok-clause-opened g c = λ name files of.

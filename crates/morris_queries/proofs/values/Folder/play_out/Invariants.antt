@@ -2,8 +2,8 @@ use Rattle.std.proofs.Common.{◌≡◌, ◌-◌, length}
 use Rattle.std.specs.List.{Contains}
 use Rattle.std.specs.Prelude.{IfSome}
 use Rattle.morris_moves.specs.Rules.{moves_of}
-use Rattle.morris_queries.specs.Folders.{Stays, Tells}
-use Rattle.morris_queries.specs.Telling.{told_line}
+use Rattle.morris_queries.specs.Folders.{Stays, HoldsFor}
+use Rattle.morris_queries.specs.Reports.{reported_line}
 use Rattle.morris_queries.proofs.TellingLaws.{prepended}
 use Rattle.morris_queries.proofs.values.Folder.play_out.Given as goal
 
@@ -14,7 +14,7 @@ invariant-loop g l = record {
   few : length l.line.items ≡ l.counter;
   stays : Stays g.B.Geometry.shape g.L.Library.files l.initial.self l.self;
   legal : IfSome l.next (Contains (moves_of g.B.Geometry.shape l.here));
-  told : Tells g.B.Geometry.shape g.L.Library.files l.initial.self (λ name files.
-      told_line g.B.Geometry.shape name files l.plies l.position l.fn.first
-      ≡ prepended l.line.items (told_line g.B.Geometry.shape name files (l.plies - l.counter) l.here l.next));
+  reported : HoldsFor g.B.Geometry.shape g.L.Library.files l.initial.self (λ name files.
+      reported_line g.B.Geometry.shape name files l.plies l.position l.fn.first
+      ≡ prepended l.line.items (reported_line g.B.Geometry.shape name files (l.plies - l.counter) l.here l.next));
 }

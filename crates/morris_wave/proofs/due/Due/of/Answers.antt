@@ -4,7 +4,7 @@ use Rattle.std.proofs.lemmas.List.{length-map}
 use Rattle.morris_wave.specs.declared.gaps.Gaps.{Gaps}
 use Rattle.morris_wave.specs.GapLists.{nodes_of}
 use Rattle.morris_wave.specs.Lists.{contents, list_at}
-use Rattle.morris_wave.specs.Keeping.{ListsDue}
+use Rattle.morris_wave.specs.NodeRanges.{ListsDue}
 use Rattle.morris_wave.proofs.DueLists.{due_none, due_skip, due_more}
 use Rattle.morris_wave.proofs.due.Due.of.Goals.{then-wave-gt0+in_ok-put_due, else-wave-gt0}
 use Rattle.morris_wave.proofs.due.Due.of.Goals as goal

@@ -2,7 +2,7 @@ use Rattle.std.proofs.Common.{◌≡◌, ◌+◌, ◌≤◌, length, slice_index
 use Rattle.std.specs.List.{All}
 use Rattle.morris_wave.specs.GapLists.{nodes_of}
 use Rattle.morris_wave.specs.Lists.{contents}
-use Rattle.morris_wave.specs.Keeping.{ListsDue}
+use Rattle.morris_wave.specs.NodeRanges.{ListsDue}
 use Rattle.morris_wave.proofs.due.Due.of.Given as goal
 
 abbrev pub invariant-loop-place : goal.invariant-loop-place

@@ -1,5 +1,5 @@
 use Rattle.std.proofs.Common.{◌≡◌, ◌<◌, ◌≤◌, ◌+◌, ◌-◌, ◌++◌, ◌∷◌, [], ℕ, List, sym, ap, ◌∙◌, arith}
-use Rattle.morris_wave.specs.Gaps.{numbers_told, next_told}
+use Rattle.morris_wave.specs.Gaps.{numbers_reported, next_reported}
 use Rattle.morris_wave.proofs.GapLists.{put_near, after_near}
 use Rattle.morris_wave.proofs.gaps.Gaps.put.Goals as goal
 
@@ -11,7 +11,7 @@ invariant_of-self-2 c =
     (omega (arith, c.loop.invariant.1, c.loop.auto.counter-end, c.requires.next), omega (arith, c.loop.invariant.1, c.loop-test.false, c.loop.auto.counter-end, c.requires.next)) in
     let back : c.args.node + 1 ≡ s.next + gap + 1 = omega (arith, near.0) in
     record {
-      told = back ∙ after_near s.first s.next s.gaps.items s.told gap (λ e. omega (arith, e, near.1)) ∙ ap (next_told s.first) (sym c.in_ok-push.ensures.items);
+      reported = back ∙ after_near s.first s.next s.gaps.items s.reported gap (λ e. omega (arith, e, near.1)) ∙ ap (next_reported s.first) (sym c.in_ok-push.ensures.items);
       small = omega (arith, c.requires.small);
     }
 
@@ -22,7 +22,7 @@ returns-clause-nodes c =
     let near : (s.next ≤ c.args.node) × (gap < 65535) =
     (omega (arith, c.loop.invariant.1, c.loop.auto.counter-end, c.requires.next), omega (arith, c.loop.invariant.1, c.loop-test.false, c.loop.auto.counter-end, c.requires.next)) in
     let back : s.next + gap ≡ c.args.node = omega (arith, near.0) in
-    ap (numbers_told s.first) c.in_ok-push.ensures.items
-    ∙ put_near s.first s.next s.gaps.items s.told gap (λ e. omega (arith, e, near.1))
-    ∙ ap (λ (n : ℕ). numbers_told s.first s.gaps.items ++ n ∷ []) back
+    ap (numbers_reported s.first) c.in_ok-push.ensures.items
+    ∙ put_near s.first s.next s.gaps.items s.reported gap (λ e. omega (arith, e, near.1))
+    ∙ ap (λ (n : ℕ). numbers_reported s.first s.gaps.items ++ n ∷ []) back
     ∙ ap (λ (xs : List ℕ). xs ++ c.args.node ∷ []) c.loop.invariant.0

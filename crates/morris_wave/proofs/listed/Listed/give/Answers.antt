@@ -4,7 +4,7 @@ use Rattle.std.proofs.lemmas.Bool.{and_from, and_left, eq-eqb, ne_eqb, lt-ltb}
 use Rattle.std.proofs.lemmas.List.{take-append-le}
 use Rattle.std.proofs.lemmas.List.Sums.{sum_by-set}
 use Rattle.morris_wave.specs.Exits.{is_odd, is_won_code}
-use Rattle.morris_wave.specs.Keeping.{Ranked}
+use Rattle.morris_wave.specs.NodeRanges.{Ranked}
 use Rattle.morris_wave.proofs.Ranks.{ranked_more, room_left}
 use Rattle.morris_wave.proofs.listed.Listed.give.Goals as goal
 use Rattle.morris_wave.proofs.listed.Listed.give.Goals.{then-code-eq1, else-code-eq1}
@@ -28,8 +28,8 @@ pub invariant_of-self-clause-ranked : goal.invariant_of-self-clause-ranked
 invariant_of-self-clause-ranked g c =
     let s = c.args.self.now in
     let codes = s.codes in
-    subst (λ (xs : List ℕ). Ranked g.L.NodeList.keeps s.first s.wave xs (g.L.NodeList.items c.put_last.new.self) s.before s.here) (sym c.put.ensures)
-    (subst (λ (xs : List ℕ). Ranked g.L.NodeList.keeps s.first s.wave (set codes c.args.place (s.wave + 1)) xs s.before s.here) (sym c.put_last.ensures.items)
+    subst (λ (xs : List ℕ). Ranked g.L.NodeList.retains s.first s.wave xs (g.L.NodeList.items c.put_last.new.self) s.before s.here) (sym c.put.ensures)
+    (subst (λ (xs : List ℕ). Ranked g.L.NodeList.retains s.first s.wave (set codes c.args.place (s.wave + 1)) xs s.before s.here) (sym c.put_last.ensures.items)
     (ranked_more s.first s.wave s.before s.here codes (g.L.NodeList.items s.decided) s.ranked c.args.place c.requires.inside c.requires.open))
 
 pub returns-clause-frame : goal.returns-clause-frame

@@ -3,7 +3,7 @@ use Rattle.std.specs.List.{count_by}
 use Rattle.std.proofs.lemmas.List.{length-replicate}
 use Rattle.std.proofs.lemmas.List.Folds.{sum_by-replicate}
 use Rattle.morris_wave.specs.Exits.{is_odd, is_won_code}
-use Rattle.morris_wave.specs.Keeping.{Ranked}
+use Rattle.morris_wave.specs.NodeRanges.{Ranked}
 use Rattle.morris_wave.proofs.Ranks.{ranked_none}
 use Rattle.morris_wave.proofs.listed.Listed.open.Goals as goal
 
@@ -19,7 +19,7 @@ invariant_of-result g c =
     let empty = c.in_ok-decided.ensures.empty in
     let len : length codes ≡ c.args.count = ap length c.in_ok-codes.ensures ∙ length-replicate c.args.count 0 in
     record {
-      ranked = subst (λ (xs : List ℕ). Ranked g.L.NodeList.keeps c.args.first 0 codes xs 0 0) (sym empty) (ranked_none c.args.first c.args.count codes c.in_ok-codes.ensures g.L.NodeList.keeps);
+      ranked = subst (λ (xs : List ℕ). Ranked g.L.NodeList.retains c.args.first 0 codes xs 0 0) (sym empty) (ranked_none c.args.first c.args.count codes c.in_ok-codes.ensures g.L.NodeList.retains);
       room = omega (arith, len, c.in_ok-decided.ensures.room);
       ends = omega (arith, len, c.requires.small);
       short = omega (arith, len, c.requires.short);

@@ -9,5 +9,5 @@ abbrev pub invariant-loop-number : goal.invariant-loop-number
 invariant-loop-number g l = record {
   seat : IsSeatOf l.tickets l.seat;
   ready : has_ended l.seat ≡ false;
-  told : g.W.Watch.becomes l.fn.watch l.watch;
+  reported : g.W.Watch.becomes l.fn.watch l.watch;
 }

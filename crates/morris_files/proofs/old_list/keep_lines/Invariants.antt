@@ -1,9 +1,0 @@
--- So far the lines that were gone through have been kept, or weren't to be.
-use Rattle.std.proofs.Common.{◌≡◌}
-use Rattle.std.specs.List.{flat_map}
-use Rattle.morris_index.specs.Pairs.{counts}
-use Rattle.morris_files.specs.Digests.{kept_line}
-use Rattle.morris_files.proofs.old_list.keep_lines.Given as goal
-
-abbrev pub invariant-loop-line : goal.invariant-loop-line
-invariant-loop-line l = l.kept.items ≡ flat_map (λ line. kept_line l.board (counts l.replaced.0 l.replaced.1) line.now) l.yielded

@@ -1,5 +1,0 @@
-use Rattle.morris_index.proofs.Highest.{IsHighest}
-use Rattle.morris_index.proofs.binomials.highest.Given as goal
-
-abbrev pub invariant-loop-n : goal.invariant-loop-n
-invariant-loop-n l = IsHighest l.k l.rank l.n l.point

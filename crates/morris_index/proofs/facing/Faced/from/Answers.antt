@@ -1,9 +1,0 @@
--- The position is led by the symmetry that leaves each point where it is.
-use Rattle.morris_index.proofs.FacingLaws.{led_itself_on}
-use Rattle.morris_index.proofs.facing.Faced.from.Goals as goal
-
-pub led_by-requires-clause-led : goal.led_by-requires-clause-led
-led_by-requires-clause-led g c =
-    let k = c.self.invariant.1 in
-    led_itself_on g.B.Geometry.shape g.B.Geometry.POINTS g.met.B.Geometry.few g.met.B.Geometry.point_count g.met.B.Geometry.has_symmetries c.self.inside.pair.now k.pair
-    c.self.inside.from c.self.inside.symmetry c.self.inside.place c.self.inside.start k

@@ -1,7 +1,0 @@
--- The points so far are squeezed.
-use Rattle.std.proofs.Common.{◌≡◌}
-use Rattle.morris_index.specs.Parts.{squeezed_below}
-use Rattle.morris_index.proofs.rings.squeezed_ring.Given as goal
-
-abbrev pub invariant-loop-point : goal.invariant-loop-point
-invariant-loop-point l = l.squeezed ≡ squeezed_below l.fn.outside l.fn.points l.point

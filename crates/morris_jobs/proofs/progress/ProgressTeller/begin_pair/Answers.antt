@@ -1,6 +1,0 @@
--- The pair at work is no part of what was told.
-use Rattle.morris_jobs.specs.ProgressLaws.{Becomes-stays}
-use Rattle.morris_jobs.proofs.progress.ProgressTeller.begin_pair.Goals as goal
-
-pub returns-clause-told : goal.returns-clause-told
-returns-clause-told g c = Becomes-stays g.E.Sink.contents g.E.Sink.failures c.args.self.now

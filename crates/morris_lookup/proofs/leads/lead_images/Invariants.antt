@@ -1,6 +1,0 @@
--- The images that the last k symmetries lead are led.
-use Rattle.morris_lookup.proofs.LeadLaws.{AreLedBy}
-use Rattle.morris_lookup.proofs.leads.lead_images.Given as goal
-
-abbrev pub invariant-loop-k : goal.invariant-loop-k
-invariant-loop-k g l = AreLedBy g.B.Geometry.shape l.count l.start l.class l.representative l.k l.words l.fn.words

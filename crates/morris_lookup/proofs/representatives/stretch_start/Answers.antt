@@ -1,8 +1,0 @@
-use Rattle.morris_lookup.proofs.StretchLaws.{stretch_within, few_masks}
-use Rattle.morris_lookup.proofs.representatives.stretch_start.Goals as goal
-
-pub returns-clause-within : goal.returns-clause-within
-returns-clause-within g c = rw c.stretch_size.ensures.value (stretch_within g.B.Geometry.POINTS c.args.number c.requires)
-
-pub returns-clause-few : goal.returns-clause-few
-returns-clause-few g c = few_masks g.B.Geometry.POINTS g.met.B.Geometry.few

@@ -1,9 +1,0 @@
-use Rattle.std.proofs.Common.{◌≡◌, ◌-◌, vec_len}
-use Rattle.morris_pairs.specs.Sharing.{AreMarked}
-use Rattle.morris_pairs.proofs.sharing.Claim.first_unknown.Given as goal
-
-abbrev pub invariant-loop-worker : goal.invariant-loop-worker
-invariant-loop-worker g l = record {
-  marked : AreMarked g.B.Geometry.shape g.B.Geometry.POINTS l.self.raw.now l.faced l.first l.marks.items;
-  len : vec_len l.marks ≡ l.end - l.first;
-}

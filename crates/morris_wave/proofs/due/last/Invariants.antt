@@ -1,5 +1,0 @@
-use Rattle.std.proofs.Common.{ℕ, ◌<◌, ◌≤◌, slice_index}
-use Rattle.morris_wave.proofs.due.last.Given as goal
-
-abbrev pub invariant-loop-wave : goal.invariant-loop-wave
-invariant-loop-wave l = (k : ℕ) → k < l.wave-index → slice_index l.waves k ≤ l.last
