@@ -1,4 +1,4 @@
--- What the program makes of its words.
+-- What the program makes of its arguments.
 use Rattle.std.specs.Prelude.{◌≡◌, ◌≢◌, ◌⊎◌, ◌==◌, ◌&&◌, ◌-◌, ◌^◌, ℕ, Bool, true, false, List, [], ◌∷◌, String, codes, if◌then◌else◌, length, map, string_bytes, Option, Some, None, is_none, Result, Ok, Err}
 use Rattle.std.specs.Vec.Iter.{into_iter_items}
 use Rattle.std.specs.declared.vec.IntoIter.{IntoIter}
@@ -43,27 +43,27 @@ use Rattle.morris_queries.specs.declared.show.Show.TheVariants as show
 use Rattle.morris_words.specs.declared.request.Show as words
 use Rattle.morris_words.specs.declared.request.Show.TheVariants as wanted
 
--- the words have a mistake, and not a request for help or for the version alone
+-- the arguments have a mistake, and not a request for help or for the version alone
 abbrev pub HasMistake : Kinds → Type 0
 HasMistake kinds = (k : ErrorKind) × (k ≢ kind.DisplayHelp) × (k ≢ kind.DisplayVersion) × IsAmong k kinds
 
--- the words ask for help or for the version
+-- the arguments ask for help or for the version
 abbrev pub AsksToShow : Kinds → Type 0
 AsksToShow kinds = IsAmong kind.DisplayHelp kinds ⊎ IsAmong kind.DisplayVersion kinds
 
--- what `lookup` shows, as its words say it
+-- what `lookup` shows, by what the arguments ask for
 abbrev pub to_show : words.Show → Show
 to_show wanted.Best = show.Best
 to_show wanted.Moves = show.Moves
 to_show wanted.Line = show.Line
 to_show wanted.Csv = show.Csv
 
--- how `lookup` ends: texts that have no answer are a fault, which says how many they are
+-- how `lookup` ends: strings without an answer are a fault, which says how many they are
 abbrev pub end_of : Result ℕ Fault → Result (Unit {0}) Fault
 end_of (Ok unanswered) = if unanswered == 0 then Ok tt else Err (fault.Unanswered unanswered)
 end_of (Err refused) = Err refused
 
--- What `lookup` answers: to texts, or, where there are none, to the lines of its input.
+-- What `lookup` answers: to position strings, or, where there are none, to the lines of its input.
 abbrev pub AnswersQueries : List (List ℕ) → Lookup → Input → Input → Option (List ℕ) → Option (List ℕ) → Result (Unit {0}) Fault → Type 0
 AnswersQueries [] asked before after old new result =
     (ended : Result ℕ Fault) × AnswersInput (board_of asked.board.now) asked.board.now None (to_show asked.show) before.bytes after.bytes old new ended
@@ -72,7 +72,7 @@ AnswersQueries (text ∷ strings) asked before after old new result =
     (ended : Result ℕ Fault) × AnswersLookup (board_of asked.board.now) asked.board.now None (to_show asked.show) (text ∷ strings) old new ended
     × (result ≡ end_of ended)
 
--- the form in which `stats` prints, as its words say it
+-- the form in which `stats` prints
 abbrev pub form_of : Bool → Bool → Form
 form_of deepest true = form.Csv
 form_of true false = form.Deepest
@@ -87,8 +87,8 @@ AnswersCount None false asked old new result = AnswersStats (board_of asked.boar
 AnswersCount None true asked old new result =
     AnswersByClasses (board_of asked.board.now) asked.pair.now asked.workers asked.blocks (form_of asked.deepest asked.csv) old new result
 
--- what `find` prints, as its words say it: how many positions there are; or their texts, as many as
--- there may be, and else as many as 64 bits count
+-- what `find` prints: how many positions there are; or their position strings, as many as there may
+-- be, and else as many as 64 bits count
 abbrev pub shown_as : Option ℕ → Bool → Shown
 shown_as limit true = found.Count
 shown_as None false = found.Strings (2 ^ 64 - 1)
@@ -107,7 +107,7 @@ AnswersTables (Some folder) asked old new result =
     AnswersInto (board_of asked.board.now) (layout_for asked.classes) asked.board.now asked.pair.now asked.workers asked.blocks (place_of None old)
     (place_of None new) result
 
--- into how many blocks the entries of each pair are cut that `verify` builds
+-- how many blocks `verify` divides the entries of each pair that it builds into
 abbrev pub verified_blocks : ℕ
 verified_blocks = 64
 
@@ -119,7 +119,7 @@ AnswersFiles None true asked before after old new result = AnswersBundle (board_
 AnswersFiles None false asked before after old new result = AnswersVerify (board_of asked.board.now) verified_blocks before after old new result
 
 -- What the command of a task answers, of its input before and after it, and of what was printed. No
--- contract knows what the system keeps in a folder: nothing is said of the bytes of its files.
+-- contract knows what the system has in a folder: nothing is said of the bytes of its files.
 abbrev pub Answers : Input → Input → Option (List ℕ) → Option (List ℕ) → Task → Result (Unit {0}) Fault → Type 0
 Answers before after old new (task.Look asked) result = Looks (board_of asked.board.now) asked.text.now asked.depth old new result
 Answers before after old new (task.Stats asked) result = AnswersCount asked.from asked.classes asked old new result
@@ -156,8 +156,9 @@ takes_input (task.Probe asked) = true
 takes_input (task.Lookup asked) = length asked.strings.items == 0
 takes_input _ = false
 
--- what was told of how far the command is: nothing; or, where the words ask for it, some lines, of
--- which the first says how much there is to do; on a terminal they take one another's place
+-- what was reported of the command's progress: nothing; or, where the arguments ask for it, some
+-- lines, of which the first says how much there is to do; on a terminal they take one another's
+-- place
 abbrev pub ReportsProgress : {E : Type 0} → (E → Option (List ℕ)) → (E → ℕ) → List Text → Bool → E → E → Type 0
 ReportsProgress contents failures words on_terminal old new =
     (new ≡ old)
@@ -176,9 +177,9 @@ abbrev pub status_of : {T : Type 0} → Result T Fault → ℕ
 status_of (Ok done) = 0
 status_of (Err fault) = 1
 
--- How the words were answered, where they have no mistake: by the command that they ask for, whose
--- output may be a terminal; by a text where they ask for help or for the version, or by want of
--- memory, with nothing read.
+-- How the arguments were answered, where they have no mistake: by the command that they ask for,
+-- whose output may be a terminal; by a text where they ask for help or for the version, or by want
+-- of memory, with nothing read.
 abbrev pub Ends : Bool → List Text → Input → Input → Option (List ℕ) → Option (List ℕ) → Result (Unit {0}) Fault → Type 0
 Ends on_terminal words before after old new answer =
     ((request : Request) × AsksFor (named_by words) request × (faults_of words ≡ [])
@@ -186,12 +187,12 @@ Ends on_terminal words before after old new answer =
     ⊎ ((AsksToShow (faults_of words) × (after ≡ before) × ((text : List ℕ) × Prints old new text answer))
     ⊎ ((answer ≡ Err fault.Memory) × (after ≡ before) × Keeps old new))
 
--- ---- the words that the system gives
+-- ---- the arguments that the system gives
 
--- the texts of the words that the system gave
+-- the texts of the arguments that the system gave
 abbrev pub texts_of : {A : Type 0} → IntoIter (String A) A → List Text
 texts_of words = map string_bytes (into_iter_items words)
 
--- what is told where one of them is no text
+-- the line that says that one of them isn't UTF-8
 abbrev pub not_text : List ℕ
 not_text = codes "error: a word of the command line is not text\n"

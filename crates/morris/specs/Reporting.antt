@@ -9,7 +9,7 @@ use Rattle.morris_jobs.specs.Faults.{ReportsText, fault_line, fault_words}
 use Rattle.morris_jobs.specs.declared.fault.Fault.{Fault}
 use Rattle.morris_jobs.specs.declared.fault.Fault.TheVariants as fault
 
--- whether a fault is one of the folder that the words name, or of the files in it
+-- whether a fault is one of the folder that the arguments name, or of the files in it
 abbrev pub is_of_folder : Fault → Bool
 is_of_folder fault.Folder = true
 is_of_folder (fault.Unwritten greater lesser) = true
@@ -20,8 +20,8 @@ is_of_folder fault.NoFolder = true
 is_of_folder fault.Unlocked = true
 is_of_folder _ = false
 
--- A colon and the path that the words have, at most 4,096 bytes of it, each of which is shown as in
--- a text that was asked about: so it stays one line. Nothing of an empty one.
+-- A colon and the path that the arguments have, at most 4,096 bytes of it, each of which is shown
+-- as in a text that was asked about: so it stays one line. Nothing of an empty one.
 abbrev pub path_text : List ℕ → List ℕ
 path_text [] = []
 path_text (byte ∷ bytes) = codes ": " ++ flat_map shown_byte (take 4096 (byte ∷ bytes))
@@ -35,7 +35,7 @@ why_text (Some why) = codes ": " ++ reason_text why
 unfoldable pub placed_line : Fault → List ℕ → Option Reason → List ℕ
 placed_line f path why = fault_words f ++ path_text path ++ why_text why ++ (10 ∷ [])
 
--- the line of a fault, by whether the words name a folder
+-- the line of a fault, by whether the arguments name a folder
 abbrev pub line_at : Fault → Option (List ℕ) → Option Reason → List ℕ
 line_at f None why = fault_line f
 line_at f (Some path) why = if is_of_folder f then placed_line f path why else fault_line f

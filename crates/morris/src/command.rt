@@ -1,4 +1,4 @@
-//! The command line: from its words to what goes out, and the exit status.
+//! The command line: from its arguments to what goes out, and the exit status.
 ghost use Rattle.std.specs.Prelude.{◌≡◌, ◌≢◌, ◌&&◌, is_none, ◌-◌, ◌^◌, ◌<◌, ◌≤◌, ◌==◌, IsTrue, false, length, map, if◌then◌else◌};
 ghost use Rattle.morris_jobs.specs.Faults.{ReportsFault, ReportsText};
 ghost use Rattle.morris_jobs.specs.declared.fault.Fault.TheVariants as fault;
@@ -46,26 +46,27 @@ use std::sync::Wait;
 use std::thread::Threads;
 use std::time::Clock;
 
-/// Into how many blocks the entries of each pair are cut that `verify` builds: one for each of the
-/// most workers there may be. With more blocks each worker keeps less at a time.
+/// How many blocks `verify` divides the entries of each pair that it builds into: as many as there
+/// may be workers. With more blocks each worker needs less memory at a time.
 const VERIFIED_BLOCKS: usize = 64;
 
-/// Reads the words of a command line, of which the first is the program's own name, runs the
+/// Reads the arguments of a command line, of which the first is the program's own name, runs the
 /// command that they name, and answers the exit status of the program.
 ///
-/// 0: the words have no mistake, and the whole text of the command, or of the help or the version
-/// that was asked for, went to `output`, and nothing to `errors`. 1: the command was refused, or
-/// memory was, and `output` has got nothing, or a part of the text where a write failed, or what a
-/// command that goes from file to file, from text to text or from entry to entry has told until
-/// then; the fault went to `errors` as one line, `fault N: ` and its text. 2: the words name no
-/// command, or not the arguments that it takes, or two that exclude each other; what is wrong with
-/// them went to `errors`, and nothing to `output`. A fault while `errors` is written is ignored.
-/// Only `probe`, `verify` without a folder and `lookup` without texts read `input`.
+/// 0: the arguments have no mistake, and the whole text of the command, or of the help or the
+/// version that was asked for, went to `output`, and nothing to `errors`. 1: the command was
+/// refused, or memory was, and `output` has got nothing, or a part of the text where a write
+/// failed, or what a command that goes from file to file, from string to string or from entry to
+/// entry had printed until then; the fault went to `errors` as one line, `fault N: ` and its text.
+/// 2: the arguments name no command, or don't fit the one that they name, or two of them exclude
+/// each other; what is wrong with them went to `errors`, and nothing to `output`. A fault while
+/// `errors` is written is ignored. Only `probe`, `verify` without a folder and `lookup` without
+/// position strings read `input`.
 ///
-/// Where the words ask for it, lines that begin with `progress: ` go to `errors` before all else
-/// there, first one that says how much there is to do, with the seconds by the clock of `rt`, until
-/// one of them can't be written. Nothing else changes by it, and it takes no memory but for the
-/// names of the files whose headers `verify --from` reads first.
+/// Where the arguments ask for it, lines that begin with `progress: ` go to `errors` before all
+/// else there, until one of them can't be written: first one that says how much there is to do.
+/// Their seconds are those of the clock of `rt`. Nothing else changes by it, and it takes no memory
+/// but for the names of the files whose headers `verify --from` reads first.
 pub fn command<
     R: Threads + Wait + Clock + Sync + Files<File = File> + AllocGlobal,
     W: AsStr,
@@ -170,8 +171,8 @@ pub(crate) fn command_at<
     }
 }
 
-/// The exit status where the words of the command line can't be had: memory was refused, which is a
-/// fault, or a word isn't text, which is a mistake in the words.
+/// The exit status where there are no arguments: memory was refused, which is a fault, or an
+/// argument isn't UTF-8, which is a mistake.
 pub fn refuse_arguments<E: Sink>(out_of_memory: bool, errors: &mut E) -> u8
     requires { E.failures errors.old < 2 ^ 64 - 1 }
     ensures status { result ≡ (if out_of_memory then 1 else 2) }
@@ -199,8 +200,8 @@ fn folder_of<'a>(task: &Task<'a>) -> Option<&'a str>
     }
 }
 
-/// Runs the command of a task, and tells `progress` how far it is; `on_terminal` says that `output`
-/// is a terminal. `why` is what the system said of the task's folder, where it refused something.
+/// Runs the command of a task, and reports to `progress`; `on_terminal` says that `output` is a
+/// terminal. `why` is what the system said of the task's folder, where it refused something.
 fn run<
     R: Threads + Wait + Sync + Files<File = File> + AllocGlobal,
     I: Source,
@@ -234,7 +235,7 @@ fn run<
     }
 }
 
-/// The tables that the words ask for.
+/// The build arguments of a pair.
 fn build_args_of<'a>(board: &'a str, pair: &'a str, workers: u8, blocks: u16) -> BuildArgs<'a>
     ensures board { result.board.now ≡ board.now }
     ensures pair { result.pair.now ≡ pair.now }
@@ -249,7 +250,7 @@ fn build_args_of<'a>(board: &'a str, pair: &'a str, workers: u8, blocks: u16) ->
     }
 }
 
-/// The form in which `stats` prints, as its words say it. No request has both.
+/// The form in which `stats` prints. No request has both.
 fn form_of(deepest: bool, csv: bool) -> Form
     ensures { result ≡ form_of deepest csv }
 {
@@ -294,8 +295,8 @@ fn count<R: Threads + Wait + Sync + Files<File = File> + AllocGlobal, O: Sink, T
     }
 }
 
-/// What `find` prints, as its words say it: how many positions there are, or their texts, as many
-/// as there may be.
+/// What `find` prints: how many positions there are, or their position strings, as many as there
+/// may be.
 fn shown_as(limit: Option<u32>, count: bool) -> Shown
     ensures { result ≡ shown_as limit count }
 {
@@ -435,8 +436,8 @@ fn verify<
     }
 }
 
-/// Looks positions up in the table files of a folder: those that texts write, where there are any,
-/// and else those on the lines of `input`.
+/// Looks up positions in the table files of a folder: those of the position strings, where there
+/// are any, and else those on the lines of `input`.
 fn look_up<R: Files<File = File> + AllocGlobal, I: Source, O: Sink>(
     rt: &R,
     alloc: Global,
@@ -467,7 +468,7 @@ fn look_up<R: Files<File = File> + AllocGlobal, I: Source, O: Sink>(
     end(answered)
 }
 
-/// How `lookup` ends: texts that have no answer are a fault.
+/// How `lookup` ends: strings without an answer are a fault.
 fn end(answered: Result<u64, Fault>) -> Result<(), Fault>
     ensures { result ≡ end_of answered }
 {
@@ -478,7 +479,7 @@ fn end(answered: Result<u64, Fault>) -> Result<(), Fault>
     }
 }
 
-/// What is shown of a position, as the words say it.
+/// What is shown of a position, by what the arguments ask for.
 fn to_show(show: request::Show) -> Show
     ensures { result ≡ to_show show }
 {

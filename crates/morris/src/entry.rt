@@ -1,4 +1,4 @@
-//! Where the program begins: what the system gave as words, and the exit status.
+//! Where the program begins: the arguments that the system gave, and the exit status.
 ghost use Rattle.std.specs.Prelude.{◌≡◌, ◌≢◌, ◌-◌, ◌^◌, ◌<◌, ◌≤◌, ℕ, IfErr, IfOk, List, Option};
 ghost use Rattle.std.specs.IoError.{error_kind};
 ghost use Rattle.std.specs.Process.{exit_status};
@@ -24,14 +24,14 @@ use std::sync::Wait;
 use std::thread::Threads;
 use std::time::Clock;
 
-/// Answers the words that the system gave, of which the first is the program's own name: runs the
-/// command that they name, as [`command`](crate::command::command) says, on all of them and on
-/// these three streams, some of which may be terminals, and gives its exit status. `main` does
-/// nothing but call this.
+/// Answers the arguments that the system gave, of which the first is the program's own name: runs
+/// the command that they name, as [`command`](crate::command::command) says, on these three
+/// streams, some of which may be terminals, and gives its exit status. `main` does nothing but call
+/// this.
 ///
-/// Where the system gave no words, nothing is read and nothing goes to `output`: with want of
-/// memory the status is 1 and fault 12 goes to `errors`, and with a word that isn't text (of bytes
-/// that aren't UTF-8) it is 2, and one line says so on `errors`.
+/// Where the system gave no arguments, nothing is read and nothing goes to `output`: with want of
+/// memory the status is 1 and fault 12 goes to `errors`, and with an argument that isn't UTF-8 it
+/// is 2, and one line says so on `errors`.
 pub fn answer_arguments<
     R: AllocGlobal + Threads + Wait + Clock + Sync + Files<File = File>,
     I: Source,
@@ -61,7 +61,7 @@ pub fn answer_arguments<
         × (exit_status result ≡ status_of answer)
         × ((path : Option (List ℕ)) × (why : _) × NamesFolder (texts_of given) path × ReportsAt E.contents E.failures path why midway errors.new answer)) }
 
-    // Where there are no words.
+    // Where there are no arguments.
     ensures unheard { IfErr words (λ refused. (output.new ≡ output.old) × (input.new ≡ input.old)) }
     ensures memory { IfErr words (λ refused. error_kind refused ≡ OutOfMemory →
         (exit_status result ≡ 1) × ReportsFault E.contents E.failures errors.old errors.new fault.Memory) }
@@ -84,8 +84,8 @@ pub fn answer_arguments<
     }
 }
 
-/// All the words, in order. Pushed one by one: `collect` asks for less memory where its first
-/// request is refused, and goes on.
+/// All arguments, in order. They are pushed one by one: `collect` asks for less memory where its
+/// first request is refused, and goes on.
 #[tactic(auto, using(std::proofs::Common::append_assoc))]
 fn list_of(alloc: Global, words: Args) -> Result<Vec<String>, AllocError>
     ensures { IfOk result (λ list. list.items ≡ into_iter_items words) }

@@ -1,11 +1,16 @@
 //! Morris, the endgame database of Nine Men's Morris: the program.
+//!
+//! - `command`: the command line, from its arguments to the exit status
+//! - `entry`: the arguments that the system gave
+//! - `report`: how a fault is reported
 #![tactic(auto)]
 
 pub mod command;
 mod entry;
 mod report;
 
-// The commands from one input to one output, each as one call, with what it is refused for.
+// The commands from one input to one output, each as one call, and the faults that they are refused
+// for.
 use command::Terminals;
 use entry::answer_arguments;
 use morris_board::streams::{FromRead, IntoWrite};

@@ -1,4 +1,4 @@
--- Laws of the images of sets and of positions under a map of points that has a way back: what an
+-- Laws of the images of sets and of positions under a map of points that has an inverse: what an
 -- image has, how many points, and the images of the sets that are made from others.
 use Rattle.std.proofs.Common.{◌≡◌, ℕ, zero, suc, ◌+◌, ◌^◌, ◌<◌, ◌≤◌, Bool, true, false, ◌&&◌, ◌||◌, eqb, ltb, List, [], ◌∷◌, length, filter, map, refl, sym, ap, subst, ◌∙◌, inl, inr, arith}
 use Rattle.std.proofs.lemmas.Bool.{cases_Bool, cases_eq, cases_lt, eq-eqb, ne_eqb, eqb-true, lt-ltb, ltb-true, and_parts, or_right, both_ways, false_from_ne_true, leb-true}
@@ -91,7 +91,7 @@ module _ (f : ℕ → ℕ) where
       let r = image_cases s q e in
       subst (λ x. has (image_of f t) x ≡ true) r.3 (image_has t r.0 r.1 (members_all s (has t) h r.0 r.1 r.2)))
 
--- ---- a map of the points below n, and the way back
+-- ---- a map of the points below n, and its inverse
 
 pub record IsOneToOne (n : ℕ) (f back : ℕ → ℕ) : Type 0 where
   pub within : (p : ℕ) → p < n → f p < n
@@ -194,9 +194,9 @@ module _ (n : ℕ) (few : n ≤ 24) (f back : ℕ → ℕ) (o : IsOneToOne n f b
   unfolding image_of members
   count_of-image s small = images_count (has s) 0 32 (λ p h. point_lt s n p small h) ∙ counted s
 
--- ---- the way back, and one map after another
+-- ---- the inverse, and one map after another
 
--- the image under the way back is the set again
+-- the image under the inverse is the set again
 pub image_of-undone : (n : ℕ) → n ≤ 24 → (f back : ℕ → ℕ) → IsOneToOne n f back → (s : ℕ) → s < 2 ^ n → image_of back (image_of f s) ≡ s
 image_of-undone n few f back o s small =
     is_image n few back f (IsOneToOne-back n f back o) (image_of f s) (image_of-lt n few f back o s small) s small
@@ -275,7 +275,7 @@ IsSymmetry-same b h = record {
     unmoved : (m : ℕ) → Contains (mills_of b) m → Contains (mills_of b) (image_of (λ p. p) m)
     unmoved m c = rw (image_of-unmoved b.points (few_points b h) m (mill-lt b h m c)) c
 
--- the way back is a symmetry too
+-- the inverse is a symmetry too
 pub IsSymmetry-back : (b : Shape) (f back : ℕ → ℕ) → IsSymmetry b f back → IsSymmetry b back f
 IsSymmetry-back b f back y = record {
   within = y.back_within;

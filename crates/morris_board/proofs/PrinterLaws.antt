@@ -72,7 +72,7 @@ module _ {S : Type 0} (contents : S → Option (List ℕ)) (failures : S → ℕ
     goes = subst (λ z. GoesOut contents failures z b.failed a b x k) (sym e) (subst (λ z. GoesOut contents failures p z a b x k) (sym f) goes);
   }
 
-  -- nothing goes out of what is kept
+  -- nothing goes out where all of it is buffered
   preserves : (p : Bool) (a b : Outlet S) (x : List ℕ) → b ≡ a → GoesOut contents failures p p a b x x
   preserves false a b x e =
       let sent : b.sent ≡ a.sent = ap (λ (o : Outlet S). o.sent) e in
@@ -160,7 +160,7 @@ module _ {S : Type 0} (contents : S → Option (List ℕ)) (failures : S → ℕ
         (subst (λ ks. LetsOut contents failures (outlet_of a) (outlet_of b) x ks) (sym empty) out);
   }
 
-  -- ---- what is told at the end
+  -- ---- the answer at the end
 
   told : (q : Bool) (a b : Outlet S) (t : List ℕ) → a.sent ≡ 0 → length t < 2 ^ 64 → GoesOut contents failures false q a b t []
       → WentOut {T = ℕ} (contents a.sink) (contents b.sink) t (if q then Err b.sent else Ok b.sent)
@@ -221,5 +221,5 @@ module _ {S : Type 0} {contents : S → Option (List ℕ)} {failures : S → ℕ
   pub ends : Takes contents failures a b t → Takes contents failures b c [] → Takes contents failures a c t
   ends first last = subst (Takes contents failures a c) (append-nil t) (Takes-append contents failures a b c t [] last first)
 
--- the laws by which pieces put in one after the other make up a text
+-- the laws by which parts that are put in one after the other make up a text
 pub ruleset takes_laws = (Takes-nil, Takes-append)

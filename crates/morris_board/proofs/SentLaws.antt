@@ -43,8 +43,7 @@ pub HasSent-append : (old mid new : Option (List ℕ)) (a b : ℕ) (t u : List �
 HasSent-append old mid new a b t u (Ok c) first second = AllSent-append old mid new a b c t u first second
 HasSent-append old mid new a b t u (Err c) first second = PartSent-append old mid new a b c t u first second
 
--- where a step that sends u after t fails, a part of any text that goes on with u after t has gone
--- out
+-- where sending u after t fails, a part of any text that goes on with u after t has gone out
 pub PartSent-within : (old mid new : Option (List ℕ)) (a b c : ℕ) (t u v whole : List ℕ) → AllSent old mid a b t → PartSent mid new b c u → whole ≡ t ++ u ++ v → PartSent old new a c whole
 PartSent-within old mid new a b c t u v whole first second e =
     subst (PartSent old new a c) (sym e) (PartSent-longer old new a c (t ++ u) v (PartSent-append old mid new a b c t u first second))

@@ -1,4 +1,4 @@
--- The text of a position and the reading of it undo one another.
+-- Writing a position string and reading it undo one another.
 use Rattle.std.proofs.Common.{◌≡◌, ◌≢◌, ℕ, ◌^◌, ◌<◌, ◌≤◌, true, false, not, ◌&&◌, cond, eqb, ltb, List, length, get_or, position, refl, sym, ◌∙◌, ap, inl, inr, arith, zero-add, Option, Some, None, Result, Ok, Err}
 use Rattle.std.proofs.lemmas.Bool.{cases_Bool, cases_eq, cases_lt, eq-eqb, ne_eqb, eqb-true, lt-ltb, le-ltb, ltb-true, ltb-false, both_ways, and_left, and_parts}
 use Rattle.std.proofs.lemmas.List.Quantifiers.{position-Some}
@@ -15,7 +15,7 @@ use Rattle.morris_board.specs.Boards.{Shape}
 use Rattle.morris_board.specs.Positions.{Sides, IsApart, IsPosition, letter, text_of, is_letter, places_of, sides_of_text, read_of, read_letters, is_sized, check_sides, sides}
 use Rattle.morris_board.proofs.PointsLaws.{has-set_where, set_where-lt, same_points, has-above}
 
--- ---- the characters of a text
+-- ---- the characters of a position string
 
 pub length-text_of : (b : Shape) (s : Sides) → length (text_of b s) ≡ b.points
 unfolding text_of
@@ -46,7 +46,7 @@ letter-is s p = elim (cases_Bool (has s.own p)) [
   | inr h ↦ rw h (elim (cases_Bool (has s.other p)) [ inl k ↦ rw k refl | inr k ↦ rw k refl ])
 ]
 
--- ---- what a text shows
+-- ---- what a position string shows
 
 has-places_of : (c : ℕ) (t : List ℕ) (p : ℕ) → has (places_of c t) p ≡ (ltb p (length t) && eqb (get_or t p 0) c)
 unfolding places_of
@@ -90,7 +90,7 @@ no_other b s = none (position (λ c. not (is_letter c)) (text_of b s)) refl
         let low : i < b.points = omega (arith, at.0, length-text_of b s) in
         absurd (both_ways _ (ap not (ap is_letter (get_or-text_of b s i low) ∙ letter-is s i)) at.1)
 
--- what is read, step by step
+-- reading it, part by part
 abbrev pub other_at : List ℕ → Option ℕ
 other_at t = position (λ c. not (is_letter c)) t
 
@@ -108,7 +108,7 @@ pub read_bad : (b : Shape) (t : List ℕ) (place : ℕ) → length t ≡ b.point
     → read_of b t ≡ Err (fault.Character place)
 read_bad b t place long first is some = read_long b t long ∙ ap (λ o. read_letters o (sides_of_text t)) (sym is ∙ some)
 
--- a position is read back from its text
+-- a position is read back from its string
 pub read_of-text_of : (b : Shape) (s : Sides) → IsPosition b s → read_of b (text_of b s) ≡ Ok s
 read_of-text_of b s h =
     read_whole b (text_of b s) (length-text_of b s) (no_other b s)
@@ -118,7 +118,7 @@ read_of-text_of b s h =
 pub complete_of : (b : Shape) (t : List ℕ) (s : Sides) → IsPosition b s → text_of b s ≡ t → read_of b t ≡ Ok s
 complete_of b t s h e = ap (read_of b) (sym e) ∙ read_of-text_of b s h
 
--- ---- a text shows two sets that have no point in common, and is the text of what it shows
+-- ---- a string shows two sets that have no point in common, and is the string of what it shows
 
 pub IsApart-shown : (b : Shape) (t : List ℕ) → length t ≡ b.points → IsApart b (sides_of_text t)
 unfolding sides_of_text
@@ -184,7 +184,7 @@ shows_of b t s e = elim (cases_eq (length t) b.points) [
           ap (text_of b) same ∙ text_of-shown b t h k
     ]
 
--- what a text of the right length and letters gives is what its two sets make
+-- what a string of the right length and characters gives is what its two sets make
 module _ (b : Shape) (t : List ℕ) (own other : ℕ) (long : length t ≡ b.points)
     (first : Option ℕ) (first_is : first ≡ other_at t) (none_first : first ≡ None)
     (own_is : own ≡ places_of 88 t) (other_is : other ≡ places_of 79 t)

@@ -1,4 +1,4 @@
--- Positions, and their texts.
+-- Positions and position strings.
 use Rattle.std.specs.Prelude.{◌≡◌, ℕ, ◌<◌, ◌^◌, Bool, true, false, not, ◌&&◌, ◌||◌, nat_eq, nat_le, List, map, length, slice_index, position, Option, Some, None, Result, Ok, Err, if◌then◌else◌}
 use Rattle.std.specs.List.{range_with_len}
 use Rattle.morris_board.specs.Sets.{has, count_of, set_where}
@@ -37,8 +37,8 @@ pub record IsPosition (board : Shape) (s : Sides) : Type 0 where
 abbrev pub check_sides : Sides → Result Sides Stones
 check_sides s = if is_sized s then Ok s else Err (record {})
 
--- The text of a position has a character for each point, in order: `X` (88) for a stone of the
--- player to move, `O` (79) for one of the opponent, `.` (46) for a vacant point.
+-- A position string has a character for each point, in order: `X` (88) for a stone of the player to
+-- move, `O` (79) for one of the opponent, `.` (46) for a vacant point.
 unfoldable pub letter : Sides → ℕ → ℕ
 letter s p = if has s.own p then 88 else (if has s.other p then 79 else 46)
 
@@ -48,15 +48,15 @@ text_of board s = map (letter s) (range_with_len 0 board.points)
 abbrev pub is_letter : ℕ → Bool
 is_letter c = nat_eq c 88 || (nat_eq c 79 || nat_eq c 46)
 
--- the points at which a text has the character c
+-- the points at which a string has the character c
 unfoldable pub places_of : ℕ → List ℕ → ℕ
 places_of c text = set_where (length text) (λ p. nat_eq (slice_index text p) c)
 
--- the stones that a text shows
+-- the stones that a string shows
 unfoldable pub sides_of_text : List ℕ → Sides
 sides_of_text text = record { own = places_of 88 text; other = places_of 79 text }
 
--- What reading a text gives: a refusal for a length that isn't one character per point, then for
+-- What reading a string gives: a refusal for a length that isn't one character per point, then for
 -- the first character that is none of the three, then for the numbers of stones; and otherwise the
 -- stones that it shows.
 abbrev pub read_letters : Option ℕ → Sides → Result Sides TextFault

@@ -24,7 +24,7 @@ sent_of p = p.sent
 abbrev pub has_failed_of : {S : Type 0} → Printer S → Bool
 has_failed_of p = p.failed
 
--- what is told at the end: how many bytes went out, as a refusal where a write failed
+-- what `finish` answers: how many bytes went out, as a refusal where a write failed
 abbrev pub answer_of : {S : Type 0} → Printer S → Result ℕ ℕ
 answer_of p = if has_failed_of p then Err (sent_of p) else Ok (sent_of p)
 
@@ -51,7 +51,7 @@ abbrev pub outlet_of : {S : Type 0} → Printer S → Outlet S
 outlet_of p = outlet (sink_of p) (sent_of p) (has_failed_of p)
 
 module _ {S : Type 0} (contents : S → Option (List ℕ)) (failures : S → ℕ) where
-  -- of these bytes all went out that aren't kept
+  -- of these bytes all went out that aren't still buffered
   pub record AllOut (old new : Outlet S) (bytes buffered : List ℕ) : Type 0 where
     pub out : List ℕ
     pub split : bytes ≡ out ++ buffered

@@ -19,7 +19,7 @@ count_of s = length (members s)
 unfoldable pub with_point : ℕ → ℕ → ℕ
 with_point s p = bit_or s (2 ^ p)
 
--- the set less the point p
+-- the set without the point p
 unfoldable pub without_point : ℕ → ℕ → ℕ
 without_point s p = if has s p then bit_xor s (2 ^ p) else s
 

@@ -13,7 +13,7 @@ image_of f s = set_of (map f (members s))
 abbrev pub image_sides : (ℕ → ℕ) → Sides → Sides
 image_sides f s = sides (image_of f s.own) (image_of f s.other)
 
--- A symmetry of a board, and the way back: each takes points to points, and each undoes the other;
+-- A symmetry of a board, and its inverse: each takes points to points, and each undoes the other;
 -- two points are adjacent exactly where their images are; and the image of a mill is a mill.
 pub record IsSymmetry (board : Shape) (f back : ℕ → ℕ) : Type 0 where
   pub within : (p : ℕ) → p < board.points → f p < board.points
@@ -34,8 +34,9 @@ pub record IsComposite (board : Shape) (s t u : ℕ) : Type 0 where
   pub within : u < board.symmetries
   pub same : (p : ℕ) → p < board.points → board.image u p ≡ board.image s (board.image t p)
 
--- The symmetries of a board: each of them is one, and its inverse is the way back; symmetry 0
--- leaves each point where it is; and two of them, one after the other, are one of them.
+-- The symmetries of a board: each number below their count stands for one, whose inverse is the one
+-- that `inverse_of` gives; symmetry 0 leaves each point where it is; and two of them, one after the
+-- other, are one of them.
 pub record HasSymmetries (board : Shape) : Type 0 where
   pub symmetry : (s : ℕ) → s < board.symmetries → IsSymmetry board (board.image s) (board.image (inverse_of s))
   pub inverse_within : (s : ℕ) → s < board.symmetries → inverse_of s < board.symmetries

@@ -94,15 +94,16 @@ mill_image board f preserves m here =
 
 -- ---- all symmetries of a board
 
--- whether a map takes each of n points to one of them, from which the other map leads back
+-- whether a map takes each of n points to one of them, from which the other map takes it back
 abbrev leads_back : ℕ → (ℕ → ℕ) → (ℕ → ℕ) → Bool
 leads_back n f back = list_all (λ p. ltb (f p) n && eqb (back (f p)) p) (range_with_len 0 n)
 
 abbrev all_symmetries : Shape → (ℕ → Bool) → Bool
 all_symmetries board test = list_all test (range_with_len 0 board.symmetries)
 
--- Symmetry t and then symmetry s: it mirrors where just one of them does, and a mirror turns the
--- turns before it round. The rings are exchanged where just one of them exchanges them.
+-- Symmetry t and then symmetry s: it mirrors where just one of them does, and the turn of t counts
+-- the other way round where s mirrors. The rings are exchanged where just one of them exchanges
+-- them.
 abbrev composite : ℕ → ℕ → ℕ
 composite s t =
     ((s % 4) + cond (eqb ((s / 4) % 2) 1) (4 - t % 4) (t % 4)) % 4 + 4 * ((s / 4 + t / 4) % 2) + 8 * ((s / 8 + t / 8) % 2)

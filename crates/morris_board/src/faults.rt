@@ -10,10 +10,10 @@ use thiserror::Error;
 #[error("bad number of stones")]
 pub struct Stones;
 
-/// Why a text isn't that of a position. The first of these that applies is the answer.
+/// Why bytes are no position string. The first of these that applies is the answer.
 #[derive(Clone, Copy, Debug, PartialEq, Eq, Error)]
 pub enum TextFault {
-    /// The text hasn't one character per point of the board.
+    /// The string hasn't one character per point of the board.
     #[error("text is not one character per point")]
     Length,
     /// The first character that is none of `X`, `O` and `.` stands at this place, counted from 0.

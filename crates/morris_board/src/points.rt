@@ -5,7 +5,7 @@ ghost use Rattle.morris_board.specs.Sets.{has, members, count_of, with_point, wi
 
 use std::marker::Model;
 
-/// A set of points of a board, kept as a mask: bit `p` stands for point `p`. Points are below 32.
+/// A set of points of a board as a mask: bit `p` stands for point `p`. Points are below 32.
 #[derive(Clone, Copy, PartialEq, Eq, Debug)]
 pub struct Points {
     mask: u32,
@@ -73,7 +73,7 @@ impl Points {
         }
     }
 
-    /// The set less `point`.
+    /// The set without `point`.
     pub fn without(self, point: u8) -> Points
         requires { point < 32 }
         ensures { result ≡ without_point self point }
@@ -139,7 +139,7 @@ impl Points {
         Some(self.mask.trailing_zeros() as u8)
     }
 
-    /// The set less its least point, or the empty set where it has none.
+    /// The set without its least point; the empty set where it has none.
     pub fn without_first(self) -> Points
         ensures { members result ≡ drop 1 (members self) }
     {

@@ -1,4 +1,4 @@
-//! Positions and their texts.
+//! Positions and position strings.
 ghost use Rattle.std.specs.Prelude.{◌≡◌, ℕ, ◌<◌, ◌≤◌, length, not, position, IfOk, Ok};
 ghost use Rattle.morris_board.specs.Sets.{count_of, set_where};
 ghost use Rattle.morris_board.specs.Positions.{Sides, sides, IsApart, IsPosition, check_sides, is_between, letter, text_of, read_of, is_letter, places_of};
@@ -94,11 +94,11 @@ impl<B: Geometry> Position<B> {
         }
     }
 
-    /// The position that a text shows: for each point of the board, in order, `X` for a stone of
+    /// Reads a position string: for each point of the board, in order, it has `X` for a stone of
     /// the player to move, `O` for one of the opponent, `.` for a vacant point.
     ///
     /// # Errors
-    /// [`TextFault::Length`] where the text hasn't one byte per point, else
+    /// [`TextFault::Length`] where the string hasn't one byte per point, else
     /// [`TextFault::Character`] at its first byte that is none of the three, else
     /// [`TextFault::Stones`] where a player has a number of stones that no position has.
     pub fn read(bytes: &[u8]) -> Result<Position<B>, TextFault>
@@ -115,7 +115,7 @@ impl<B: Geometry> Position<B> {
         }
     }
 
-    /// Writes the text of the position, which [`Position::read`] reads back. `out` has one byte per
+    /// Writes the position string, which [`Position::read`] reads back. `out` has one byte per
     /// point of the board.
     pub fn write_to(&self, out: &mut [u8])
         requires { length out.old ≡ B.POINTS }
@@ -135,7 +135,7 @@ fn is_between(low: u8, n: u8, high: u8) -> bool
     low <= n && n <= high
 }
 
-/// The places of `text` at which `letter` stands.
+/// The places of `text` that have `letter`.
 #[tactic(auto, using(crate::proofs::PointsLaws::set_where_none, crate::proofs::PointsLaws::set_where_more), unfolding(crate::specs::Positions::places_of))]
 fn places(text: &[u8], letter: u8) -> Points
     requires { length text.now ≤ 24 }
@@ -158,7 +158,7 @@ fn first_other(text: &[u8]) -> Option<usize>
         .position(|character| !matches!(*character, b'X' | b'O' | b'.'))
 }
 
-/// The character of a text for `point`.
+/// The character of the position string for `point`.
 #[tactic(auto, unfolding(crate::specs::Positions::letter))]
 fn letter(own: Points, other: Points, point: u8) -> u8
     requires { point < 32 }

@@ -12,8 +12,8 @@ use thiserror::Error;
 pub mod printed;
 pub mod printer;
 
-/// A call of a stream failed. Why isn't kept: what matters is that it did, and the stream counts
-/// it.
+/// A call of a stream failed. The reason isn't stored: what matters is that it failed, and the
+/// stream counts it.
 #[derive(Debug, Clone, Copy, PartialEq, Eq, Error)]
 #[error("a call of a stream failed")]
 pub struct Failed;
@@ -115,11 +115,11 @@ impl<R: Read> Source for FromRead<R> {
 /// A [`Sink`] over a writer of std. Each fault of the writer is a failure, `Interrupted` too, and
 /// so is a write that took 0 bytes of some.
 ///
-/// `Ok` says that the writer took the bytes. `Stdout` keeps nothing back, since its `write` is the
-/// system call itself: the bytes have then left the process. A writer that does keep bytes back, as
-/// a `BufWriter`, has to be flushed after [`into_inner`](IntoWrite::into_inner), and a fault there
-/// is the caller's to report. The sink doesn't flush by itself: where the write took bytes and the
-/// flush then failed, the answer could be neither `Ok` nor "nothing was taken".
+/// `Ok` says that the writer took the bytes. `Stdout` holds nothing back, since its `write` is the
+/// system call itself: the bytes have then left the process. A writer that does hold bytes back,
+/// such as a `BufWriter`, has to be flushed after [`into_inner`](IntoWrite::into_inner), and a
+/// fault there is the caller's to report. The sink doesn't flush by itself: where the write took
+/// bytes and the flush then failed, the answer could be neither `Ok` nor "nothing was taken".
 #[derive(Debug, Drop)]
 pub struct IntoWrite<W> {
     writer: W,

@@ -24,9 +24,9 @@ WritesValue (Ok value) status old new = (status ≡ pos 0) × (new ≡ value_rec
 WritesValue (Err fault) status old new = (status ≡ pos (view_status fault)) × (new ≡ old)
 
 -- What looking a position up answers. Masks that aren't one have the status of the fault, and
--- nothing is written. Where the words serve the files, it is what the files say; and where the one
--- of the position is exact, a value that is told is that of the game. From a file by classes no
--- value is told where the words don't look prepared.
+-- nothing is written. Where the words are those that the files need, it is what the files say; and
+-- where the file of the position is exact, a value that is written is that of the game. From a file
+-- by classes no value is written where the words don't look prepared.
 pub record LooksUp (board : Shape) (words : List ℕ) (files : List (List ℕ)) (s : Sides) (status : ℤ) (old new : ValueRecord) : Type 0 where
   pub refused : (fault : MaskFault) → IsMaskRefusal board s fault → (status ≡ pos (mask_status fault)) × (new ≡ old)
   pub said : IsPosition board s → HasWordsForAll board words files → WritesValue (value_said board files s) status old new

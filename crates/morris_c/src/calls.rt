@@ -14,7 +14,7 @@ use morris_lookup::prepared::prepare;
 use morris_lookup::records::{MoveRecord, ValueRecord, value_record};
 use morris_lookup::views::{View, value};
 
-/// Prepares words.
+/// Prepares the words that files by classes need.
 pub fn prepare_words<B: Geometry>(words: &mut [u32]) -> i32
     ensures { Prepares B.shape result words.old words.new }
 {

@@ -1,5 +1,10 @@
-//! The calls that programs in C make: `embed/morris.h` says what each of them is for. They keep
-//! nothing, take no memory, and test all that they are handed.
+//! The calls that programs in C make: `embed/morris.h` says what each of them is for. They store
+//! nothing from call to call, take no memory, and test all that they are handed.
+//!
+//! The functions here choose the board by its number:
+//! - `calls`: what they do with table files, for any board
+//! - `plays`: what they do without
+//! - `statuses`: the number that each answers
 #![tactic(auto)]
 
 pub mod calls;
@@ -46,7 +51,7 @@ pub extern "C" fn morris_prepare_size(board: u32) -> usize
     }
 }
 
-/// Prepares words for a board.
+/// Prepares the words that files of a board by classes need.
 #[unsafe(no_mangle)]
 pub extern "C" fn morris_prepare(board: u32, words: &mut [u32]) -> i32
     ensures usual { board ≡ 0 → Prepares nine result words.old words.new }

@@ -1,5 +1,5 @@
--- The tables of the pairs below a pair but its own, in an order in which each comes after those that
--- it needs, while those that no pair to come needs are let go, or all are kept.
+-- The tables of the pairs below a pair but its own, in an order in which each comes after those
+-- that it needs, while those that no later pair needs are dropped, or all are retained.
 use Rattle.std.proofs.Common.{◌≡◌, ◌≢◌, ◌≤◌, ℕ, not, true, ◌&&◌, eqb, leb, List, [], ◌∷◌, ◌++◌, None, is_some, sym, ap, ◌∙◌, subst, inl, inr, arith}
 use Rattle.std.specs.List.{Contains}
 use Rattle.std.proofs.lemmas.Bool.{and_from, and_parts, both_ways, eq-eqb, leb-true, not-true}
@@ -25,13 +25,13 @@ below_no_more c d m =
     let parts = and_parts (leb d.greater c.greater) (leb d.lesser c.lesser) (filter-contains (is_below c) all_pairs d m).1 in
     omega (arith, leb-true _ _ parts.0, leb-true _ _ parts.1)
 
--- of all pairs so far but for one there are the tables that a pair to come may need, and codes
+-- of all pairs so far but for one there are the tables that a later pair may need, and codes
 -- suffice for them
 abbrev pub AreBuiltBut : Shape → Layout → Stored → Counts → List Counts → Type 0
 AreBuiltBut board l tables but done =
     (d : Counts) → Contains done d → d ≢ but → (IsNear done d → HasExactAt board l tables d) × ¬ IsBeyondCodes board d
 
--- pairs that a test tells apart
+-- two pairs are different where a test says so
 pub told_apart : (c d : Counts) → not (eqb c.greater d.greater && eqb c.lesser d.lesser) ≡ true → c ≢ d
 told_apart c d differ = λ same.
     both_ways _ (not-true _ differ) (and_from _ _ (eq-eqb _ _ (ap (λ (x : Counts). x.greater) same)) (eq-eqb _ _ (ap (λ (x : Counts). x.lesser) same)))
@@ -50,7 +50,7 @@ module _ (board : Shape) (l : Layout) (pair : Counts) (before after : List Count
   unbuilt-one blocks other fault.TooDeep h = (c, here, other, h)
   unbuilt-one blocks other _ h = absurd h
 
-  -- the next pair finds the tables that it needs, also once those of fewer stones are let go
+  -- the next pair finds the tables that it needs, also once those of fewer stones are dropped
   pub built-ready : (tables kept : Stored) → NeedsFirst (below_of pair) → AreBuiltBut board l tables pair before → ArePruned tables kept c → first_missing kept c ≡ None
   built-ready tables kept build_args has goes = none-missing kept c (λ need m.
       let less = needs-one_less c need m in
@@ -58,7 +58,7 @@ module _ (board : Shape) (l : Layout) (pair : Counts) (before after : List Count
       (λ e k. omega (arith, below-rises pair before after c e split k, less)) in
       ap is_some (goes need (omega (arith, less)) ∙ at.1))
 
-  -- with its own table there are again all that one to come may need
+  -- with its own table there are again all that a later one may need
   pub built-more : (tables kept new : Stored) → AreBuiltBut board l tables pair before → ArePruned tables kept c → HasExactAt board l new c
       → ¬ IsBeyondCodes board c → ((d : Counts) → d ≢ c → table_on new d ≡ table_on kept d) → AreBuiltBut board l new pair (before ++ c ∷ [])
   built-more tables kept new has goes here within others = λ d m other. elim (cases_pair d c) [
@@ -90,7 +90,7 @@ module _ (board : Shape) (l : Layout) (pair : Counts) (before after : List Count
     | inr is ↦ absurd (other (sym is ∙ itself))
   ]
 
--- where all are kept there are those of all pairs so far but for one, also with its own table
+-- where all are retained there are those of all pairs so far but for one, also with its own table
 pub every-more : (board : Shape) (l : Layout) (tables kept new : Stored) (but : Counts) (before : List Counts) (c : Counts) → HasExactBut board l tables but before
     → ((d : Counts) → table_on kept d ≡ table_on tables d) → HasExactAt board l new c → ((d : Counts) → d ≢ c → table_on new d ≡ table_on kept d)
     → HasExactBut board l new but (before ++ c ∷ [])

@@ -1,4 +1,4 @@
--- The position of the greatest code that says an outcome is a deepest one.
+-- The position of the greatest code that states an outcome is a deepest one.
 use Rattle.std.proofs.Common.{◌≡◌, ◌≢◌, ℕ, suc, ◌+◌, ◌-◌, ◌<◌, ◌≤◌, ◌%◌, true, nat_lt, nat_eq, List, Option, None, Some, length, get_or, sym, ap, subst, inl, inr, arith}
 use Rattle.std.proofs.lemmas.Bool.{cases_eq, cases_lt, lt-ltb, eq-eqb, eqb-true, and_parts, and_from}
 use Rattle.morris_board.specs.Boards.{Shape}
@@ -45,7 +45,7 @@ told_even code reported = eqb-true (code % 2) 0 (and_parts (nat_lt 0 code) (nat_
 told_odd : (code : ℕ) → is_stated_by Lost code ≡ true → code % 2 ≡ 1
 told_odd code reported = eqb-true (code % 2) 1 reported
 
--- a position has the outcome that its code says, in one ply less than the code
+-- a position has the outcome that its code states, in one ply less than the code
 told_decided : (outcome : Outcome) (code : ℕ) (board : Shape) (s : Sides) → IsCodeOf board s code → is_stated_by outcome code ≡ true
     → (code ≡ suc (code - 1)) × IsDecidedIn board outcome s (code - 1)
 told_decided Won code board s h reported = elim (code_cases board s code h) [
@@ -76,7 +76,7 @@ module _ (outcome : Outcome) (codes : List ℕ) (seen : ℕ) where
   le_found None h i low reported = absurd (h i low reported)
   le_found (Some entry) h i low reported = h.none_greater i low reported
 
-  -- the next code is greater, and says the outcome
+  -- the next code is greater, and states the outcome
   pub taken : (found : Option ℕ) → IsGreatestStated outcome codes seen found → is_stated_by outcome (get_or codes seen 0) ≡ true
       → code_found codes found < get_or codes seen 0 → IsFirstGreatest outcome codes (seen + 1) seen
   taken found h reported more = record {
@@ -89,7 +89,7 @@ module _ (outcome : Outcome) (codes : List ℕ) (seen : ℕ) where
     least = λ i low i_told. omega (arith, le_found found h i low i_told, more);
   }
 
-  -- the next code isn't greater, or doesn't say it
+  -- the next code isn't greater, or doesn't state it
   pub passed_over : (found : Option ℕ) → IsGreatestStated outcome codes seen found
       → (is_stated_by outcome (get_or codes seen 0) ≡ true → get_or codes seen 0 ≤ code_found codes found) → IsGreatestStated outcome codes (seen + 1) found
   passed_over None h less = λ i low reported. elim (cases_eq i seen) [
@@ -115,7 +115,7 @@ module _ (board : Shape) (few : board.points ≤ 24) (y : HasSymmetries board) (
   abbrev entry_of : Sides → ℕ
   entry_of s = entry_index board board.points t.layout t.pair s
 
-  -- a decided position of the pair has its code, which says its outcome, at its entry
+  -- a decided position of the pair has its code, which states its outcome, at its entry
   decided_at : (s : Sides) → IsPosition board s → is_of t.pair s ≡ true → (depth : ℕ) → IsDecidedIn board outcome s depth
       → (entry_of s < length t.codes) × (get_or t.codes (entry_of s) 0 ≡ suc depth) × (is_stated_by outcome (get_or t.codes (entry_of s) 0) ≡ true)
   decided_at s h of depth decided =

@@ -1,6 +1,6 @@
--- Where one position has an entry of its own, and another one an entry that isn't less, the first
+-- Where one position has an entry of its own, and another one's entry isn't smaller, the first
 -- one's index among all positions isn't greater: classes are numbered in the order of the masks of
--- their representatives, and no set has a lesser mask than its representative.
+-- their canonical forms, and no set has a smaller mask than its canonical form.
 use Rattle.std.proofs.Common.{◌≡◌, ◌≢◌, ℕ, ◌+◌, ◌-◌, ◌*◌, ◌^◌, ◌<◌, ◌≤◌, true, map, refl, sym, ap, ap₂, ◌∙◌, subst, inl, inr, arith}
 use Rattle.std.proofs.lemmas.Bool.{cases_eq, cases_lt, eqb-true}
 use Rattle.morris_board.specs.Boards.{Shape}
@@ -56,7 +56,7 @@ module _ (board : Shape) (few : board.points ≤ 24) (y : HasSymmetries board) w
         let e : own_rank s * choices s ≡ own_rank t * choices t = ap₂ (λ r c. r * c) (ap (λ o. rank_of (members o)) same) (sym same_choices) in
         omega (arith, e, le)
 
-    -- a lesser class comes before
+    -- a smaller class comes first
     class_less : representative_of board t.own < representative_of board s.own → class_of board t.own < class_of board s.own
     unfolding class_of
     class_less less =

@@ -1,4 +1,4 @@
--- How long the texts are at most that are printed, so that their bytes can be counted.
+-- How long the printed texts are at most, so that their bytes can be counted.
 use Rattle.std.proofs.Common.{ℕ, ◌+◌, ◌^◌, ◌<◌, ◌≤◌, List, ◌++◌, Option, Some, None, codes, length, arith, length-append}
 use Rattle.morris_board.proofs.LengthLaws.{decimal_few, flat_map_few}
 use Rattle.morris_board.specs.Boards.{Shape}

@@ -42,7 +42,7 @@ module _ (board : Shape) (pair : Counts) (blocks : ℕ) where
   unbuilt_itself last fault.TooDeep h = (pair, is_below_itself pair last, h)
   unbuilt_itself last _ h = absurd h
 
--- all tables are there where all are kept, and the pair's own is
+-- all tables are there where all are retained, and the pair's own is
 pub with_own : (board : Shape) (l : Layout) (all : Bool) (pair : Counts) (tables new : Stored) → (all ≡ true → HasExactBut board l tables pair (below_of pair))
     → HasExactAt board l new pair → ((d : Counts) → d ≢ pair → table_on new d ≡ table_on tables d) → HasExact board l new (pairs_written all pair)
 with_own board l all pair tables new every here others =

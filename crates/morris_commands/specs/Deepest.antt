@@ -17,7 +17,7 @@ IsDecidedIn board Won s depth = IsWonIn board s depth
 IsDecidedIn board Lost s depth = IsLostIn board s depth
 
 -- The position is of the pair, and has the outcome in so many plies; no position of the pair has it
--- in more; and of those that have it in as many none has a lesser index among all positions.
+-- in more; and of those that have it in as many none has a smaller index among all positions.
 pub record IsDeepestAt (board : Shape) (c : Counts) (outcome : Outcome) (s : Sides) (depth : ℕ) : Type 0 where
   pub lawful : IsPosition board s
   pub of : is_of c s ≡ true
@@ -44,7 +44,7 @@ abbrev pub is_stated_by : Outcome → ℕ → Bool
 is_stated_by Won code = nat_lt 0 code && nat_eq (code % 2) 0
 is_stated_by Lost code = nat_eq (code % 2) 1
 
--- of the codes at the first `seen` entries that say the outcome, the one at this entry is the
+-- of the codes at the first `seen` entries that state the outcome, the one at this entry is the
 -- greatest, and it is the first that is so great
 pub record IsFirstGreatest (outcome : Outcome) (codes : List ℕ) (seen entry : ℕ) : Type 0 where
   pub inside : entry < seen
@@ -52,14 +52,14 @@ pub record IsFirstGreatest (outcome : Outcome) (codes : List ℕ) (seen entry : 
   pub none_greater : (i : ℕ) → i < seen → is_stated_by outcome (slice_index codes i) ≡ true → slice_index codes i ≤ slice_index codes entry
   pub least : (i : ℕ) → i < entry → is_stated_by outcome (slice_index codes i) ≡ true → slice_index codes i < slice_index codes entry
 
--- this entry, or none where none of these codes says the outcome
+-- this entry, or none where none of these codes states the outcome
 abbrev pub IsGreatestStated : Outcome → List ℕ → ℕ → Option ℕ → Type 0
 IsGreatestStated outcome codes seen None = (i : ℕ) → i < seen → is_stated_by outcome (slice_index codes i) ≢ true
 IsGreatestStated outcome codes seen (Some entry) = IsFirstGreatest outcome codes seen entry
 
 -- ---- what is printed
 
--- the line of a position that is so deep: a head, the position's text, a label and the depth
+-- the line of a position that is so deep: a head, the position string, a label and the depth
 abbrev pub deep_line : Shape → List ℕ → List ℕ → Sides → ℕ → List ℕ
 deep_line board head label s depth = head ++ text_of board s ++ number_line label depth
 

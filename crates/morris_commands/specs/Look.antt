@@ -26,7 +26,7 @@ value_line n (Won d) = number_line (codes "won in ") d
 value_line n Unknown = number_line (codes "unknown within ") n
 
 -- all of it: the position and the numbers of stones; each legal move, in order, and how many there
--- are; and its value as far as n plies show it
+-- are; and its value as far as a search of n plies finds it
 unfoldable pub look_text : Shape → Sides → ℕ → Within → List ℕ
 look_text board s n found =
     line (text_of board s) ++ counts_line s ++ flat_map move_line (moves_of board s) ++ number_line (codes "moves ") (length (moves_of board s))
@@ -36,7 +36,7 @@ look_text board s n found =
 abbrev pub PrintsLook : {T : Type 0} → Shape → Sides → ℕ → Option (List ℕ) → Option (List ℕ) → Result T Fault → Type 0
 PrintsLook board s n old new result = (found : Within) × AnswersWithin board s n found × Prints old new (look_text board s n found) result
 
--- what `look` answers on a board, of the position that a text writes; and on the board of a name
+-- what `look` answers on a board, of the position of a position string; and on the board of a name
 abbrev pub LooksOn : {T : Type 0} → Shape → List ℕ → ℕ → Option (List ℕ) → Option (List ℕ) → Result T Fault → Type 0
 LooksOn board text n old new result = OnRead text_fault (read_of board text) result (Keeps old new) (λ s. PrintsLook board s n old new result)
 

@@ -41,7 +41,7 @@ AnswersReport board shelf s old new (Err fault.Memory) = (missing_table shelf s 
 AnswersReport board shelf s old new result =
     (missing_table shelf s ≡ None) × ((text : List ℕ) × IsReport board s text × Prints old new text result)
 
--- What it answers on a board, of the position that a text writes: what comes of the bundle on the
+-- What it answers on a board, of the position of a position string: what comes of the bundle on the
 -- input, and of the position over its tables.
 abbrev pub AnswersOnBoard : {T : Type 0} → Shape → List ℕ → Input → Input → Option (List ℕ) → Option (List ℕ) → Result T Fault → Type 0
 AnswersOnBoard board text before after old new result =
@@ -54,7 +54,7 @@ abbrev pub AnswersProbe : {T : Type 0} → Option Shape → List ℕ → Input �
 AnswersProbe named text before after old new result =
     OnBoard named result ((after ≡ before) × Keeps old new) (λ board. AnswersOnBoard board text before after old new result)
 
--- whether `probe` comes to read its input: the board is there, and the text is a position's
+-- whether `probe` comes to read its input: the board is there, and the text is a position string
 abbrev pub IsAsked : Option Shape → List ℕ → Type 0
 IsAsked None text = ⊥
 IsAsked (Some board) text = IsOk (read_of board text)

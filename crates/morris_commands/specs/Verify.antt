@@ -15,7 +15,7 @@ use Rattle.morris_jobs.specs.Verified.{verified_text}
 use Rattle.morris_jobs.specs.Answering.{OnBoard, OnRead}
 use Rattle.morris_commands.specs.Build.{IsUnbuiltBefore, RestsOnTooDeep}
 
--- Why a table that was read isn't believed: the pairs on which its own rests aren't built; or,
+-- Why a table that was read isn't verified: the pairs on which its own rests aren't built; or,
 -- where codes suffice for them, the first entry that isn't what the rules give from those of its
 -- results.
 abbrev pub IsUnverified : Shape → Table → ℕ → Fault → Type 0
@@ -30,10 +30,9 @@ AnswersTable board blocks t old new result =
     ((refused : Fault) × (result ≡ Err refused) × IsUnverified board t blocks refused × Keeps old new)
     ⊎ (¬ RestsOnTooDeep board t.pair × IsTable board t × Prints old new (verified_text t.pair (length t.codes)) result)
 
--- What it answers on a board: what was read of the whole input, in the steps of a table's file, and
--- the answer to that. Room is wanting in the file only where no step before room is first taken
--- refuses it. The input stands in that file, or one byte past it where one more byte is why it is
--- refused.
+-- What it answers on a board: what was read of the whole input, as a table's file, and the answer
+-- to that. Memory runs out in the file only if nothing before the first allocation refuses it. The
+-- input stands in that file, or one byte past it where one more byte is why it is refused.
 abbrev pub AnswersInput : {T : Type 0} → Shape → ℕ → Input → Input → Option (List ℕ) → Option (List ℕ) → Result T Fault → Type 0
 AnswersInput board blocks before after old new result =
     (found : Result Table ReadFault) × Reads (only_file_in board) before.bytes after.bytes found × CountsRead before.failures after.failures found

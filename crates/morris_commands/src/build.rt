@@ -29,12 +29,12 @@ use std::alloc::Global;
 use std::sync::Wait;
 use std::thread::Threads;
 
-/// Builds the tables of all pairs below the one that the text `pair` names on the board named
-/// `board`, in order and the pair's own among them, and writes the file of the pair's table; or,
-/// with `all`, the files of all of them, one after the other in that order. With `classes` each
-/// table has an entry for each class of positions, and its file is of version 2; otherwise it has
-/// one for each position, and its file is of version 1. Each is built by so many workers over so
-/// many blocks; the bytes are the same for every number of them.
+/// Builds the tables of all pairs below a pair on the board named `board`, in order and the pair's
+/// own among them, and writes the file of the pair's table; or, with `all`, the files of all of
+/// them, one after the other in that order. `pair` is the name of the pair, such as `4-3`. With
+/// `classes` each table has an entry for each class of positions, and its file is of version 2;
+/// otherwise it has one for each position, and its file is of version 1. Each is built by so many
+/// workers over so many blocks; the bytes are the same for every number of them.
 ///
 /// # Errors
 /// [`Fault::Board`] where there is no such board, else [`Fault::PairText`], [`Fault::Counts`] or
@@ -74,7 +74,7 @@ pub fn build_out<R: Threads + Wait + Sync, O: Sink>(
 }
 
 /// Builds and writes on the board `B` what [`build_out`] does on the board of a name, in this
-/// layout; the name in the order isn't looked at. `progress` is told how far it is.
+/// layout; the name in `build_args` isn't looked at. Reports to `progress`.
 ///
 /// # Errors
 /// Those of [`build_out`], in the same order, but for [`Fault::Board`].
@@ -106,8 +106,8 @@ pub fn build_on<B: Board, R: Threads + Wait + Sync, O: Sink, T: Progress>(
     write_files(&tables, layout, pair, all, output)
 }
 
-/// The tables that a pair needs, in a layout: those of all pairs below it but its own are built in
-/// order. But for `all` they are let go once no pair to come needs them.
+/// Builds the tables of all pairs below a pair but its own, in order and in a layout; among them
+/// are those that the pair needs. Unless `all`, each is dropped once no later pair needs it.
 pub(crate) fn build_before<B: Board, R: Threads + Wait + Sync, T: Progress>(
     context: Context<'_, R>,
     layout: Layout,
@@ -193,7 +193,7 @@ fn write_below<B: Geometry, O: Sink>(
 }
 
 /// Writes the file of a pair's table. `sent` counts the bytes that went out before it; the answer
-/// counts those of the file as well.
+/// counts those of the file too.
 fn write_one<B: Geometry, O: Sink>(
     tables: &TableSet<B>,
     pair: Pair<B>,

@@ -12,7 +12,7 @@ use morris_pairs::exact::Exact;
 use morris_pairs::layout::Layout;
 use std::alloc::{AllocError, Global};
 
-/// What a position is for the player to move where it is no draw.
+/// The outcome of a decided position for the player to move.
 #[derive(Clone, Copy, Debug, PartialEq, Eq)]
 pub enum Outcome {
     /// The player to move wins.
@@ -22,7 +22,7 @@ pub enum Outcome {
 }
 
 impl Outcome {
-    /// Whether a code says this: codes of losses are odd, and those of wins even and above 0.
+    /// Whether a code states this: codes of losses are odd, and those of wins even and above 0.
     fn is_stated_by(self, code: u16) -> bool
         ensures { result ≡ is_stated_by self code }
     {
@@ -55,7 +55,7 @@ impl<B: Geometry> Deepest<B> {
     /// Those of a table's pair, see [`find_deepest`].
     ///
     /// # Errors
-    /// [`AllocError`] where memory runs out, which isn't asked for in layout `Full`.
+    /// [`AllocError`] where memory runs out; layout `Full` asks for none.
     pub fn of(alloc: Global, table: &Exact<B>) -> Result<Deepest<B>, AllocError>
         ensures { IfOk result (HasDeepest B.shape table.now.pair) }
     {
@@ -70,7 +70,7 @@ impl<B: Geometry> Deepest<B> {
 /// position of the pair has the outcome.
 ///
 /// # Errors
-/// [`AllocError`] where memory runs out, which isn't asked for in layout `Full`.
+/// [`AllocError`] where memory runs out; layout `Full` asks for none.
 pub fn find_deepest<B: Geometry>(
     alloc: Global,
     table: &Exact<B>,
@@ -88,7 +88,7 @@ pub fn find_deepest<B: Geometry>(
     Ok(Some(Deep { position, depth }))
 }
 
-/// The first entry with the greatest code that says the outcome.
+/// The first entry with the greatest code that states the outcome.
 fn deepest_entry<B: Geometry>(table: &Exact<B>, outcome: Outcome) -> Option<u64>
     ensures { IsGreatestStated outcome table.now.codes (length table.now.codes) result }
 {
@@ -104,7 +104,7 @@ fn deepest_entry<B: Geometry>(table: &Exact<B>, outcome: Outcome) -> Option<u64>
     found
 }
 
-/// The position that has an entry for its own.
+/// The position of an entry; by classes its canonical form.
 fn position_of<B: Geometry>(
     alloc: Global,
     table: &Exact<B>,

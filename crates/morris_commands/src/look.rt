@@ -13,13 +13,13 @@ use morris_jobs::on_board;
 use morris_jobs::print::print;
 use morris_moves::look_ahead::within;
 
-/// Shows the position that `text` writes on the board named `board`: its text, how many stones each
-/// side has, its legal moves, and its value as far as `depth` plies show it, at most 6. It takes no
-/// memory.
+/// Shows the position of a position string on the board named `board`: the string, how many stones
+/// each side has, the legal moves, and the value as far as a search of `depth` plies, at most 6,
+/// finds it. It takes no memory.
 ///
 /// # Errors
 /// [`Fault::Board`] where there is no such board, else [`Fault::Length`], [`Fault::Character`] or
-/// [`Fault::Stones`] where the text isn't that of a position, in this order and with nothing
+/// [`Fault::Stones`] where the text isn't a position string, in this order and with nothing
 /// written; else [`Fault::Write`], with the bytes that went out, at the first write that fails.
 pub fn look<S: Sink>(board: &str, text: &str, depth: u8, output: &mut S) -> Result<(), Fault>
     requires depth { depth ≤ 6 }

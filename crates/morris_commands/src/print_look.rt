@@ -1,4 +1,4 @@
-//! What `look` prints, piece by piece.
+//! What `look` prints.
 ghost use Rattle.std.specs.Prelude.{◌≡◌, length};
 ghost use Rattle.std.specs.List.{flat_map};
 ghost use Rattle.morris_moves.specs.Rules.{moves_of};
@@ -16,7 +16,7 @@ use morris_moves::within::Within;
 use morris_probe::print::{put_count, put_move_line, put_number_line, put_position};
 
 /// What `look` prints of a position: how many stones each side has, its legal moves, and its value
-/// as far as so many plies show it.
+/// as far as a search of so many plies finds it.
 #[derive(Drop)]
 pub struct Looked<B: Geometry> {
     /// The position.
@@ -59,7 +59,7 @@ fn put_moves<B: Geometry, S: Sink>(out: &mut Printer<'_, S>, position: &Position
     }
 }
 
-/// The value of a position as far as `plies` plies show it.
+/// The value of a position as far as a search of `plies` plies finds it.
 fn put_within<S: Sink>(out: &mut Printer<'_, S>, plies: u8, found: Within)
     ensures { Takes S.contents S.failures out.old out.new (value_line plies found) }
 {

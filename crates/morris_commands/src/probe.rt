@@ -27,10 +27,10 @@ use std::alloc::Global;
 /// How many table files are taken from the input at most.
 const MOST_FILES: u8 = 64;
 
-/// Reports the position that `text` writes on the board named `board`: its value and its best
-/// moves, as the tables on the input have them. The input is a bundle, table files one after the
-/// other to its end, at most 64 of them. A table comes after those of the pairs that its pair
-/// needs; each is verified as it comes, and takes the place of an earlier one of its pair.
+/// Reports a position on the board named `board`, from its position string `text`: its value and
+/// its best moves, as the tables on the input have them. The input is a bundle: table files one
+/// after the other to its end, at most 64 of them. A table comes after those of the pairs that its
+/// pair needs; each is verified as it comes, and takes the place of an earlier one of its pair.
 ///
 /// # Errors
 /// Those of [`probe_with`].
@@ -50,11 +50,11 @@ pub fn probe_in<I: Source, O: Sink>(
     probe_with(alloc, board, text, input, output, &mut NoProgress)
 }
 
-/// Reports what [`probe_in`] reports, and tells `progress` how far it is.
+/// Reports what [`probe_in`] reports, with its progress to `progress`.
 ///
 /// # Errors
 /// [`Fault::Board`] where there is no such board, else [`Fault::Length`], [`Fault::Character`] or
-/// [`Fault::Stones`] where the text isn't that of a position, in this order and before anything is
+/// [`Fault::Stones`] where the text isn't a position string, in this order and before anything is
 /// read. Else the first fault of the bundle: that of a file, as `read_next` of `morris_pairs` has
 /// it; [`Fault::TooMany`] where a 65th file was read; [`Fault::Needs`] with the first pair that a
 /// table needs and that isn't there, or [`Fault::Differs`] with the index of the first entry that
@@ -120,8 +120,8 @@ fn show_report<B: Board, O: Sink>(
     }
 }
 
-/// The tables of the files on the input, each verified before the next is read, for a position of
-/// the pair `asked`.
+/// The tables of the files on the input, each verified before the next is read; `asked` is the pair
+/// of the position.
 fn load_bundle<B: Board, I: Source, T: Progress>(
     alloc: Global,
     asked: Option<&Pair<B>>,
@@ -147,8 +147,9 @@ fn load_bundle<B: Board, I: Source, T: Progress>(
     unreachable!()
 }
 
-/// Puts a table on the shelf once each of its entries is known to be right. What is told first goes
-/// by the pair `asked`, or where the position is of none by that of the first file.
+/// Puts a table on the shelf once each of its entries is known to be right. How much there is to do
+/// is reported for the pair `asked`, or for that of the first file where the position is of no
+/// pair.
 fn join_shelf<B: Board, T: Progress>(
     shelf: &mut Shelf<B>,
     raw: Raw<B>,

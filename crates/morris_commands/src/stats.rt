@@ -36,10 +36,10 @@ use std::alloc::Global;
 use std::sync::Wait;
 use std::thread::Threads;
 
-/// Counts the values of all positions of the pair that the text `pair` names on the board named
-/// `board`: how many positions there are, how many of them are lost or won in each depth that some
-/// position has, in ascending order, and how many are draws. The pairs below it are swept first, in
-/// order, since the values of a pair rest on theirs.
+/// Counts the values of all positions of a pair on the board named `board`; `pair` is its name,
+/// such as `4-3`. It prints how many positions there are, how many of them are lost or won in each
+/// depth that some position has, in ascending order, and how many are draws. The pairs below it are
+/// swept first, in order, since the values of a pair rest on theirs.
 ///
 /// # Errors
 /// Those of [`stats_with`].
@@ -51,10 +51,10 @@ pub fn stats<S: Sink>(alloc: Global, board: &str, pair: &str, output: &mut S) ->
     stats_with(alloc, board, pair, Form::Text, output, &mut NoProgress)
 }
 
-/// Prints what [`stats`] prints in this form, and tells `progress` how far it is. With
-/// [`Form::Deepest`] two lines more show positions of the pair with the greatest depths: one that
-/// is won, and one that is lost; of several the one with the least index. With [`Form::Csv`] a line
-/// of fields stands for each number of stones of the player to move and each value that occurs.
+/// Prints what [`stats`] prints in this form, and reports to `progress`. With [`Form::Deepest`] two
+/// lines more show positions of the pair with the greatest depths: one that is won, and one that is
+/// lost; of several the one with the least index. With [`Form::Csv`] there is a line of fields for
+/// each number of stones of the player to move and each value that occurs.
 ///
 /// # Errors
 /// [`Fault::Board`] where there is no such board, else [`Fault::PairText`], [`Fault::Counts`] or
@@ -186,9 +186,8 @@ fn sweep_onto<B: Board, T: Progress>(
     }
 }
 
-/// Prints what [`stats_with`] prints, counted from tables with an entry for each class of
-/// positions. So many workers build each of these over so many blocks; the text is the same for
-/// every number of them. `progress` is told how far it is.
+/// Prints what [`stats_with`] prints, counted from tables by classes. So many workers build each of
+/// these over so many blocks; the text is the same for every number of them. Reports to `progress`.
 ///
 /// # Errors
 /// [`Fault::Board`] where there is no such board, else [`Fault::PairText`], [`Fault::Counts`] or
@@ -239,7 +238,7 @@ fn by_classes_on<B: Board, R: Threads + Wait + Sync, S: Sink, T: Progress>(
         alloc,
         parallelism,
     };
-    // The tables that the pair's rests on are let go once no pair to come needs them.
+    // Tables that the pair rests on are dropped once no later pair needs them.
     let (layout, all) = (Layout::Classes, false);
     progress.start(pair, layout, Plan::Built { parallelism, all });
     let mut tables = build_before(context, layout, all, pair, progress)?;

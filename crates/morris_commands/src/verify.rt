@@ -28,10 +28,10 @@ use std::sync::Wait;
 use std::thread::Threads;
 
 /// Reads the file of one table from `input`, which ends with it, for the board named `board`, and
-/// tells whether each of its codes is that of the game. A team builds the pairs below that of the
-/// file first, in order and in the layout of the file, since the values of a pair rest on theirs,
-/// and then the pair itself. Where that table isn't the same, its workers share the entries of the
-/// file out among them to find the first that is wrong. `progress` is told how far it is.
+/// states whether each of its codes is that of the game. It first builds the pairs below that of
+/// the file, in order and in the layout of the file, since the values of a pair rest on theirs, and
+/// then the pair itself. Where that table isn't the same, the workers divide the entries of the
+/// file among themselves to find the first that is wrong. Reports to `progress`.
 ///
 /// # Errors
 /// [`Fault::Board`] where there is no such board, before anything is read; else the fault of the
@@ -125,11 +125,11 @@ fn judge<B: Board, R: Threads + Wait + Sync, T: Progress>(
     }
 }
 
-/// The table of a pair as the team builds it over those of a set, where it is the same as one that
-/// was read. `None` where it isn't, or where the build is refused.
+/// The table of a pair as it is built from those of a set, where it is the same as one that was
+/// read. `None` where it isn't, or where the build is refused.
 ///
-/// Where few positions are decided, a table is built in less time than all results of its positions
-/// are looked at.
+/// Where few positions are decided, building a table takes less time than looking at all results of
+/// its positions.
 fn build_alike<B: Board, R: Threads + Wait + Sync, T: Progress>(
     context: Context<'_, R>,
     tables: &TableSet<B>,

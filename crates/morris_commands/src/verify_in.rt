@@ -22,13 +22,13 @@ use morris_workers::NoProgress;
 use std::alloc::Global;
 
 /// Reads the file of one table from `input`, which ends with it, for the board named `board`, and
-/// tells whether each of its codes is that of the game. It waits for nobody: the pairs below that
+/// states whether each of its codes is that of the game. It starts no thread: the pairs below that
 /// of the file are swept on the thread of the caller, in order and with an entry for each position,
-/// since the values of a pair rest on theirs; then the entries of the file are gone through there.
+/// since the values of a pair rest on theirs; then the entries of the file are verified there.
 ///
 /// # Errors
 /// Those of [`verify_with`](crate::verify::verify_with), in the same order, but for
-/// [`Fault::Missing`]: nothing is cut into blocks.
+/// [`Fault::Missing`]: there are no blocks.
 pub fn verify_in<I: Source, O: Sink>(
     alloc: Global,
     board: &str,

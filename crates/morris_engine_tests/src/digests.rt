@@ -1,4 +1,4 @@
-//! What stands at the end of table files, as another program reckons it.
+//! What stands at the end of table files, as another program computes it.
 
 /// The SHA-256 at the end of the file of 3-3 on `grid`.
 pub const BY_POSITIONS: [u8; 32] = [

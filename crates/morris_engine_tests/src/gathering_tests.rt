@@ -42,7 +42,7 @@ fn batches_reusing(
     scatter_reusing(alloc, &PAIR, &fresh, spare).ok()
 }
 
-// Node 0 leads to the fresh node, and stands in the first batch.
+// Node 0 leads to the fresh node, and is in the first batch.
 fn lead_to_node_0(rt: &impl Abort, batches: &[Batch<Pairs>]) {
     let [left, right] = batches else {
         panic!(rt; "not two batches");
@@ -93,7 +93,7 @@ fn three_lists(alloc: Global) -> Option<Vec<Vec<u64>>> {
 #[test]
 fn lists_of_batches_are_used_again(rt: HostRuntime) {
     let blocks = blocks_at_42(rt.alloc()).expect(&rt, "blocks");
-    // Of three lists two are taken, whatever stands in them.
+    // Of three lists two are taken, whatever is in them.
     let mut spare = three_lists(rt.alloc()).expect(&rt, "lists");
     let mut batches = batches_reusing(rt.alloc(), &blocks, &mut spare).expect(&rt, "batches");
     same(&rt, spare.len() as u64, 1, "lists left");

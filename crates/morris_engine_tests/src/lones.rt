@@ -1,4 +1,4 @@
-//! One node, whose exits the level tells.
+//! One node, whose exits the level gives.
 ghost use Rattle.std.specs.Prelude.{◌≡◌, ◌<◌, ℕ};
 ghost use Rattle.morris_engine_tests.specs.Samples.{lone_net, lone_lawful};
 

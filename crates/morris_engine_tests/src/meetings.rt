@@ -11,7 +11,7 @@ use std::alloc::AllocError;
 pub enum Meeting {
     /// While nodes are read, which is where blocks are made.
     ReadNodes,
-    /// While the nodes before a node are listed, which is where a block is sent from.
+    /// While predecessors are listed, which is where a block is sent from.
     Back,
 }
 

@@ -21,7 +21,7 @@ impl Levels for Pairs {
 pub struct PairGraph {
     /// Its number within its family.
     pub level: u64,
-    /// Whether it refuses memory to those who go back.
+    /// Whether it refuses memory for predecessors.
     pub refuses: bool,
 }
 

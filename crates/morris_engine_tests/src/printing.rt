@@ -2,11 +2,11 @@
 use std::alloc::{AllocError, Global};
 use std::fmt::{Debug, Display};
 
-/// A request of so many bytes opens or closes the stretch in which requests are counted.
+/// A request of so many bytes opens or closes the section in which requests are counted.
 /// `tests/lib/refuse.c` knows it.
 const MARK: usize = 7_777_777;
 
-/// Opens or closes the stretch in which a request may be refused.
+/// Opens or closes the section in which a request may be refused.
 pub fn mark(alloc: Global) -> Option<()> {
     let marked = Vec::<u8>::with_capacity(alloc, MARK).ok()?;
     if marked.capacity() < MARK {

@@ -1,20 +1,20 @@
-//! A watch that writes down what it is told.
+//! A watch that lists what is reported to it.
 ghost use Rattle.std.specs.Prelude.{◌≤◌, vec_len};
 
 use morris_wave::Watch;
 use std::alloc::Global;
 
-/// Writes down the waves that it is told, and how many entries are done.
+/// Lists the waves that are reported to it, and how many entries are done.
 #[derive(Drop)]
 pub struct Scribe {
-    /// The waves that were told.
+    /// The waves that were reported.
     pub waves: Vec<u16>,
-    /// How many entries were told to be done.
+    /// How many entries were reported to be done.
     pub done: u64,
 }
 
 impl Scribe {
-    /// A watch that was told nothing yet.
+    /// A watch that nothing was reported to yet.
     pub fn new(alloc: Global) -> Scribe {
         Scribe {
             waves: Vec::new(alloc),

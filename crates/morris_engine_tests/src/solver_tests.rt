@@ -86,7 +86,7 @@ fn solves_in_long_lists<G: Graph + Send + Sync, R: Abort + Threads + Wait + Sync
 #[test]
 fn two_workers_send_lists_of_64_bits(rt: HostRuntime) {
     solves_in_long_lists(&rt, rt.alloc(), &PAIR, 2, 2, &[43, 42]);
-    // Node 1 is lost in 8, and node 2, which leads there, won in 9.
+    // Node 1 is lost in 8, and node 2, which leads to it, won in 9.
     solves_in_long_lists(&rt, rt.alloc(), &TrioGraph, 2, 3, &[6, 9, 10]);
 }
 
@@ -156,7 +156,7 @@ fn a_worker_that_is_told_to_leave_draws_no_more(rt: HostRuntime) {
 
 #[test]
 fn want_of_memory_comes_before_what_it_leaves_undone(rt: HostRuntime) {
-    // The graph refuses memory to the first who goes back, which is after wave 41.
+    // The graph refuses memory for the first predecessors, which are listed after wave 41.
     let refusing = PairGraph {
         level: 0,
         refuses: true,

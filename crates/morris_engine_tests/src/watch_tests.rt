@@ -18,7 +18,7 @@ const PAIR: PairGraph = PairGraph {
     refuses: false,
 };
 
-// The waves that are told are 1, 2, .. up to this one, each once.
+// The waves that are reported are 1, 2, .. up to this one, each once.
 fn are_waves_to(rt: &impl Abort, waves: &[u16], last: u16) {
     same(rt, waves.len() as u64, u64::from(last), "waves");
     let are_in_order = waves
@@ -28,7 +28,7 @@ fn are_waves_to(rt: &impl Abort, waves: &[u16], last: u16) {
     holds(rt, are_in_order, "order");
 }
 
-// Solves a graph, and looks at the waves that are told.
+// Solves a graph, and looks at the waves that are reported.
 fn tells<G: Graph + Send + Sync, A: Gate, R: Abort + Threads + Wait + Sync>(
     rt: &R,
     alloc: Global,
@@ -45,7 +45,7 @@ fn tells<G: Graph + Send + Sync, A: Gate, R: Abort + Threads + Wait + Sync>(
     answer
 }
 
-// So many waves are told, and then the codes are these.
+// So many waves are reported, and then the codes are these.
 fn ends<G: Graph + Send + Sync, R: Abort + Threads + Wait + Sync>(
     rt: &R,
     alloc: Global,
@@ -59,7 +59,7 @@ fn ends<G: Graph + Send + Sync, R: Abort + Threads + Wait + Sync>(
     same_codes(rt, &found, codes, "codes");
 }
 
-// So many waves are told, and then the graph is refused for this fault.
+// So many waves are reported, and then the graph is refused for this fault.
 fn breaks_off<G: Graph + Send + Sync, A: Gate, R: Abort + Threads + Wait + Sync>(
     rt: &R,
     alloc: Global,
@@ -107,7 +107,7 @@ fn waves_go_on_past_the_numbers_of_one_counter(rt: HostRuntime) {
     ends(&rt, rt.alloc(), &late, 2, 64, 16002, &[16002]);
 }
 
-// The graph is solved with no draw in a wave, and no wave is told.
+// The graph is solved with no draw in a wave, and no wave is reported.
 fn is_settled_at_once<G: Graph + Send + Sync, R: Abort + Threads + Wait + Sync>(
     rt: &R,
     alloc: Global,
@@ -155,7 +155,7 @@ fn a_wave_that_is_refused_is_the_last_that_is_told(rt: HostRuntime) {
         1,
         SolveFault::Missing(0),
     );
-    // Memory is refused to the first who goes back, which is from node 1, won in 41.
+    // Memory is refused for the first predecessors, which are those of node 1, won in 41.
     let refusing = PairGraph {
         level: 0,
         refuses: true,

@@ -1,4 +1,4 @@
--- The lines of a list: which are those of files, and which are kept.
+-- The lines of a list: which are those of files, and which are retained.
 use Rattle.std.proofs.Common.{◌≡◌, ℕ, ◌+◌, ◌-◌, ◌<◌, ◌≤◌, refl, Bool, true, false, not, ◌&&◌, ◌||◌, List, ◌++◌, length, take, drop, get_or, codes, Some, sym, ap, ◌∙◌, arith, length-drop}
 use Rattle.std.specs.List.{list_all, list_any, slice_get}
 use Rattle.std.specs.Str.{bytes_eq}
@@ -36,7 +36,7 @@ module _ (board line : List ℕ) where
 
   module _ (replaced : Counts) where
     module _ (c : Counts) where
-      -- the line of a file that is replaced isn't kept, and that of another one is
+      -- the line of a file that is replaced isn't retained, and that of another one is
       pub is_retained_of-replaced : is_below replaced c ≡ true → is_retained_of board replaced line c ≡ false
       is_retained_of-replaced below = ap (λ b. not b && is_line_of board line c) below
 

@@ -18,7 +18,7 @@ digest_line board pair digest = encode_lower digest ++ codes "  " ++ name_of boa
 abbrev pub digest_lines : {W : Type 0} → List ℕ → (W → Counts) → (W → List ℕ) → List W → List ℕ
 digest_lines board pair digest written = flat_map (λ w. digest_line board (pair w) (digest w)) written
 
--- ---- the lines of a list that are kept
+-- ---- the lines of a list that are retained
 
 -- whether a byte is a digit of a digest: 0 to 9 (48 to 57) or a to f (97 to 102)
 abbrev pub is_digit : ℕ → Bool
@@ -34,11 +34,11 @@ is_line_of board line c = list_all is_digit (take 64 line) && bytes_eq (drop 64 
 abbrev pub is_retained_of : List ℕ → Counts → List ℕ → Counts → Bool
 is_retained_of board replaced line c = not (is_below replaced c) && is_line_of board line c
 
--- whether a line is kept: it is that of such a file, of any of all pairs
+-- whether a line is retained: it is that of such a file, of any of all pairs
 unfoldable pub is_retained : List ℕ → Counts → List ℕ → Bool
 is_retained board replaced line = list_any (is_retained_of board replaced line) all_pairs
 
--- a line with its line feed (10) where it is kept, and nothing where it isn't
+-- a line with its line feed (10) where it is retained, and nothing where it isn't
 abbrev pub retained_line : List ℕ → Counts → List ℕ → List ℕ
 retained_line board replaced line = if is_retained board replaced line then line ++ 10 ∷ [] else []
 
@@ -46,6 +46,6 @@ retained_line board replaced line = if is_retained board replaced line then line
 abbrev pub lines_of : List ℕ → List (List ℕ)
 lines_of list = slice_split (λ byte. byte == 10) list
 
--- the lines of a list that are kept, in order
+-- the lines of a list that are retained, in order
 unfoldable pub retained_of : List ℕ → Counts → List ℕ → List ℕ
 retained_of board replaced list = flat_map (retained_line board replaced) (lines_of list)

@@ -19,7 +19,7 @@ IsList board None list = ⊤
 IsList board (Some files) list = (list ≡ list_in files board) × (length list ≤ 65536)
 
 -- What is had of a folder's list, no longer than that, where the files are known: the lines that
--- are kept.
+-- are retained.
 abbrev pub AreRetainedLines : List ℕ → Counts → Option Files → List ℕ → Type 0
 AreRetainedLines board replaced None retained = ⊤
 AreRetainedLines board replaced (Some files) retained = (retained ≡ retained_of board replaced (list_in files board)) × (length (list_in files board) ≤ 65536)

@@ -1,4 +1,4 @@
-//! A line of a list of digests, and whether it is kept.
+//! A line of a list of digests, and whether it is retained.
 ghost use Rattle.std.specs.Prelude.{◌≡◌, IfOk};
 ghost use Rattle.std.specs.List.{list_all};
 ghost use Rattle.morris_index.specs.Pairs.{counts, is_below};
@@ -11,8 +11,8 @@ use std::alloc::{AllocError, Global};
 /// How many hexadecimal digits a digest has.
 const DIGITS: usize = 64;
 
-/// Whether a line is kept where the files of all pairs below the one with these numbers of stones
-/// are replaced: it is that of the file of another pair, on the board of this name.
+/// Whether a line is retained where the files of all pairs below the one with these numbers of
+/// stones are replaced: it is that of the file of another pair, on the board of this name.
 pub(crate) fn is_retained(
     alloc: Global,
     board: &str,

@@ -15,7 +15,7 @@ use morris_wave::{NoProgress, Watch};
 use sha2::{Digest, Sha256};
 use std::alloc::{AllocError, Global};
 
-/// The bytes of a list: lines that were kept of an older one, and those after them.
+/// The bytes of a list: lines that were retained of an older one, and those after them.
 #[derive(Drop)]
 struct ListBytes<'a> {
     retained: &'a [u8],
@@ -43,8 +43,8 @@ impl Contents for ListBytes<'_> {
 
 /// Writes the list of digests of files of tables of the board of this name into their folder, whole
 /// or not at all, as `sha256sum -c` reads it: the lines that were
-/// [kept](crate::old_list::kept_lines) of the list before, and then a line for each file that was
-/// written, in order. The list is a file with the name that [`digests_name`] says.
+/// [retained](crate::old_checksums::retained_lines) of the older list, and then a line for each
+/// file that was written, in order. The list is a file with the name that [`digests_name`] says.
 ///
 /// Fewer than `u64::MAX - 1` calls of the folder may have failed before.
 ///

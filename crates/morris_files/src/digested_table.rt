@@ -18,8 +18,8 @@ use sha2::{Digest, Sha256};
 const CHUNK: usize = 4096;
 
 /// Writes the file of a table as `write_table` of `morris_pairs` does, and answers the SHA-256 of
-/// the whole file, as `sha256sum` tells it. After each piece the watch is told that no entry more
-/// is done, so that it hears of the work. No memory is taken.
+/// the whole file, as `sha256sum` prints it. After each chunk 0 entries are reported to the watch,
+/// which shows that the work goes on. No memory is taken.
 ///
 /// The digest of the first bytes, with which the file ends, is found on the way, so that each code
 /// is digested once.

@@ -31,8 +31,8 @@ pub trait Folder {
     /// Makes the folder itself where there is none. Its parent has to be there. No file is changed,
     /// whether the call fails or not.
     ///
-    /// Where the path is empty nothing is made, and nothing fails. A path that stands for something
-    /// else than a folder isn't told either: [`find`](Folder::find) tells both.
+    /// Where the path is empty nothing is made, and the call doesn't fail. Nor does it where the
+    /// path stands for something other than a folder: [`find`](Folder::find) fails in both cases.
     ///
     /// Fewer than `u64::MAX` calls may have failed before, here and at each other call. A failed
     /// call is counted by [`failures`](Folder::failures), and isn't tried again. No call but
@@ -54,8 +54,8 @@ pub trait Folder {
         ensures by_others { taken self.new ≡ taken self.old };
 
     /// Locks the folder by a file of this name, which is made where there is none, and may stay:
-    /// `false` where another has locked it, for which it doesn't wait. The lock is kept as long as
-    /// this value is, and there is no call that lets it go earlier.
+    /// `false` where another has locked it, for which it doesn't wait. The lock is held as long as
+    /// this value is there, and no call lets it go earlier.
     ///
     /// What stands under the name then is open, and each other file is as it was.
     fn lock(&mut self, name: &str) -> Result<bool, Failed>

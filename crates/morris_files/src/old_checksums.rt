@@ -1,4 +1,4 @@
-//! The list of digests that a folder has, and its lines that are kept.
+//! The list of digests that a folder has, and its lines that are retained.
 ghost use Rattle.std.specs.Prelude.{◌≡◌, ℕ, ◌+◌, ◌-◌, ◌^◌, ◌<◌, ◌++◌, length, Err, IfOk, MatchResult, OnOk};
 ghost use Rattle.morris_index.specs.Pairs.{counts};
 ghost use Rattle.morris_files.specs.Files.{HasFailed, AreUnchanged};
@@ -36,11 +36,11 @@ pub enum ListFault {
     Long,
 }
 
-/// The lines that are kept of the list of digests that a folder has of the board of this name,
+/// The lines that are retained of the list of digests that a folder has of the board of this name,
 /// where the files of all pairs below a pair, its own among them, are replaced: those of the files
 /// of other pairs, in order, each with a line feed at its end. Each stands in the list byte for
-/// byte as [`write_list`](crate::digests::write_list) writes it, but the digest, which may be any;
-/// all other lines are dropped. Nothing is kept where there is no list.
+/// byte as [`write_list`](crate::checksum_list::write_list) writes it, but the digest, which may be
+/// any; all other lines are dropped. Nothing is retained where there is no list.
 ///
 /// Fewer than `u64::MAX` calls of the folder may have failed before.
 ///
@@ -114,7 +114,7 @@ fn zeros(alloc: Global) -> Result<Vec<u8>, AllocError>
     vec![in alloc; 0; LIST + 1]
 }
 
-/// The lines of a list that are kept.
+/// The lines of a list that are retained.
 fn retain_lines(
     alloc: Global,
     board: &str,
@@ -130,7 +130,7 @@ fn retain_lines(
     Ok(retained)
 }
 
-/// Adds a line, with its line feed, if it is kept.
+/// Adds a line, with its line feed, if it is retained.
 fn retain_line(
     alloc: Global,
     board: &str,

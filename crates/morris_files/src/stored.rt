@@ -1,4 +1,4 @@
-//! The tables that a folder keeps.
+//! The tables that are stored in a folder.
 ghost use Rattle.std.specs.Prelude.{◌≡◌, ℕ, ◌+◌, ◌-◌, ◌^◌, ◌<◌, List, Option, Err, IfErr};
 ghost use Rattle.morris_files.specs.Files.{Files, HasFailed, IsOpened, IsReaderOf, AreUnchanged};
 ghost use Rattle.morris_files.specs.Stored.{AnswersStored, IsUnopened, failures_opening};
@@ -39,9 +39,9 @@ pub enum StoredFault {
 /// to its end, or up to the step that refuses it, as `read_table` of `morris_pairs` does.
 ///
 /// # Errors
-/// [`StoredFault::Memory`] where memory is refused for the name, else [`StoredFault::Unopened`] where
-/// the file can't be opened, else [`StoredFault::Refused`] where it isn't exactly one file of a table
-/// of the board, else [`StoredFault::OtherPair`] where the table is that of another pair.
+/// [`StoredFault::Memory`] where memory is refused for the name, else [`StoredFault::Unopened`]
+/// where the file can't be opened, else [`StoredFault::Refused`] where it isn't exactly one file of
+/// a table of the board, else [`StoredFault::OtherPair`] where the table is that of another pair.
 pub fn read_table_file<B: Geometry, F: Folder>(
     alloc: Global,
     folder: &mut F,
@@ -65,7 +65,8 @@ pub fn read_table_file<B: Geometry, F: Folder>(
 /// Fewer than `u64::MAX` calls of the reader may have failed before.
 ///
 /// # Errors
-/// Those of [`read_table_file`] but for [`StoredFault::Unopened`], and for want of memory for a name.
+/// Those of [`read_table_file`] but for [`StoredFault::Unopened`], and for want of memory for a
+/// name.
 pub fn read_opened<B: Geometry, S: Source>(
     alloc: Global,
     reader: &mut S,
@@ -92,8 +93,8 @@ pub fn read_opened<B: Geometry, S: Source>(
 /// Fewer than `u64::MAX` calls of the folder may have failed before.
 ///
 /// # Errors
-/// [`StoredFault::Memory`] where memory is refused for the name, else [`StoredFault::Unopened`] where
-/// the file can't be opened.
+/// [`StoredFault::Memory`] where memory is refused for the name, else [`StoredFault::Unopened`]
+/// where the file can't be opened.
 pub fn open_table_file<B: Geometry, F: Folder>(
     alloc: Global,
     folder: &mut F,

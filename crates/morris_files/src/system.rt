@@ -17,8 +17,9 @@ use std::rt::Files;
 pub mod calls;
 mod tally;
 
-/// The folder of the system with this path. No call keeps a file open but through its reader or
-/// writer, and [`lock`](Folder::lock), which keeps that of the lock open as long as this value is.
+/// The folder of the system with this path. A call leaves no file open but that of the reader or
+/// writer that it answers; and [`lock`](Folder::lock) leaves that of the lock open, as long as this
+/// value is there.
 ///
 /// Of the bytes of its files nothing is said: no contract knows what the system does. A call that
 /// is refused memory for a path fails, as one that the system refuses does.

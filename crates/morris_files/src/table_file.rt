@@ -42,11 +42,11 @@ pub struct Written<B: Geometry> {
 }
 
 /// Writes the file of a table into a folder, whole or not at all, under the name that the file of
-/// its pair has on the board of this name. After each piece `watch` is told that no entry more is
-/// done, so that it hears of the work.
+/// its pair has on the board of this name. After each chunk 0 entries are reported to `watch`,
+/// which shows that the work goes on.
 ///
 /// Fewer than `u64::MAX - 1` calls of the folder may have failed before. No byte of the file is
-/// held beside the pieces of several KiB in which it goes out, and none is read again.
+/// held beside the chunks of several KiB in which it goes out, and none is read again.
 ///
 /// # Errors
 /// [`NotWhole`] with the first step that failed. What stood under the name before stands there

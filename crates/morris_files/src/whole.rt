@@ -12,13 +12,13 @@ use morris_wave::Watch;
 use std::alloc::Global;
 use thiserror::Error;
 
-/// What writes the bytes of a file, in pieces.
+/// What writes the bytes of a file, in chunks.
 pub trait Contents {
     /// The bytes.
     ghost bytes: { Self → List ℕ };
 
-    /// Writes all the bytes to the sink, and answers their SHA-256. Where there are many the watch
-    /// is told now and then that no entry more is done, so that it hears of the work.
+    /// Writes all the bytes to the sink, and answers their SHA-256. Where there are many, 0 entries
+    /// are reported to the watch now and then, which shows that the work goes on.
     ///
     /// Fewer than `u64::MAX` calls of the sink may have failed before.
     ///
@@ -91,11 +91,11 @@ pub struct Part<W: Drop> {
 /// Writes the file of this name, in the place of one that is there, so that the name never stands
 /// for a part of the bytes, whatever ends the program: the bytes go to a part, a file of the name
 /// with `.part` at its end, which gets the name once all of them are there and are to last. At the
-/// end the names of the folder are to last as well. What stood under the name of the part before
-/// is removed, and isn't written to. The answer is the SHA-256 of the bytes.
+/// end the names of the folder are to last as well. What stood under the name of the part before is
+/// removed, and isn't written to. The answer is the SHA-256 of the bytes.
 ///
-/// Fewer than `u64::MAX - 1` calls of the folder may have failed before. Where there are many bytes
-/// `watch` is told now and then that no entry more is done, so that it hears of the work (see
+/// Fewer than `u64::MAX - 1` calls of the folder may have failed before. Where there are many
+/// bytes, 0 entries are reported to `watch` now and then, which shows that the work goes on (see
 /// [`Contents`]).
 ///
 /// # Errors
@@ -113,7 +113,7 @@ pub fn write_whole<F: Folder, C: Contents, W: Watch>(
     ensures unwritten { IfErr result (λ fault. fault.step ≡ Step.Write → HasFailed F.Writer.failures) }
     ensures held { F.locked folder.new ≡ F.locked folder.old }
     ensures digest { IfOk result (λ digest. digest ≡ sha256 (C.bytes contents.now)) }
-    // The watch is as it may be after it was told, whatever the answer.
+    // The watch is as it may be after reports, whatever the answer.
     ensures watched { W.becomes watch.old watch.new }
 {
     let mut part = begin_part(alloc, folder, name)?;

@@ -136,7 +136,7 @@ module _ {R W : Type 0} (reading : R → ℕ) (writing : W → ℕ) where
     refused_caused c read.Read why = why refl
     refused_caused c _ why = tt
 
-    -- one that isn't had, after calls of which some may have failed
+    -- one that can't be read, after calls of which some may have failed
     kept_caused : (mid : ℕ) → old ≤ mid → (c : Counts) (refused : StoredFault) → IsCaused reading writing taken long mid new (stored_fault c refused)
         → Caused (stored_fault c refused)
     kept_caused mid up c stored.Memory h = tt
@@ -173,7 +173,7 @@ module _ {R W : Type 0} (reading : R → ℕ) (writing : W → ℕ) where
         → Caused (step_fault (fault.Unwritten c.greater c.lesser) f.step)
     unwritten_caused c = step_caused (fault.Unwritten c.greater c.lesser) (λ why. why)
 
-  -- one that isn't had
+  -- one that can't be read
   pub unlisted_caused : (taken : Option Bool) (old new : ℕ) (name : List ℕ) (files : Option Files) (refused : ListFault)
       → IsUnlisted name files refused → (refused ≡ list.Unopened → old < new) → (refused ≡ list.Unread → HasFailed reading)
       → IsCaused reading writing taken (MayBeLong name files) old new (list_fault refused)

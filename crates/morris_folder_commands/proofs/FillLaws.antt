@@ -73,7 +73,7 @@ module _ (board : Shape) (l : Layout) (name : List ℕ) (blocks : ℕ) where
       subst (λ (ps : List Counts). Fills board l name blocks unchanged ps from.sent from.digests from.here from.here (Err refused)) (sym is)
       (inl (refused, refl, why, stays from.here))
 
-  -- a table whose file is written and told of, or not
+  -- a table whose file is written and its line printed, or not
   module _ {B : Type 0} (waiting : Option Counts) (old new : List (Written B)) (c : Counts) (pairs : List Counts) (t : Table) (sent now : ℕ) (here next : Place)
       (waits : waiting ≡ Some c) (built : IsBuilt board l c t) (within : ¬ IsBeyondCodes board c) where
     abbrev first : Rest
@@ -169,7 +169,7 @@ module _ (board : Shape) (l : Layout) (name : List ℕ) (blocks : ℕ) where
       (subst (λ (o : Option Counts). Fills board l name blocks unchanged (option_to_list o ++ []) sent (lines_of name written) next after result) (sym none) ends))
   comes_to pair start next written sent waiting (Err refused) none goes unchanged = inr (goes unchanged)
 
--- the table that waits is still there once those of fewer stones are let go
+-- the table that waits is still there once those of fewer stones are dropped
 pub spares_waiting : (board : Shape) (l : Layout) (old new : Stored) (c : Counts) (waiting : Option Counts)
     → IfSome waiting (λ last. stones c ≤ stones last + 1) → ArePruned old new c → IfSome waiting (IsThere board l old) → IfSome waiting (IsThere board l new)
 spares_waiting board l old new c None near goes there = tt

@@ -89,7 +89,7 @@ none_left board place h = ap (filter (fits board)) (past all_pairs place (omega 
     past (c ∷ cs) zero h = absurd (omega arith)
     past (c ∷ cs) (suc n) h = past cs n (omega arith)
 
--- ---- files that are kept
+-- ---- files that stay unchanged
 
 -- what is known of a file of a folder is so of it before calls that change no file
 pub file_before : (old new : Option Files) (name : List ℕ) (are : List ℕ → Type 0) → folder.AreUnchanged old new → HasFile new name are → HasFile old name are
@@ -183,7 +183,7 @@ module _ {R : Type 0} (reading : R → ℕ) (board : Shape) (files : Option File
 -- ---- the pairs one after the other
 
 module _ (board : Shape) (files : Option Files) (name : List ℕ) (start : Option (List ℕ)) (empty : Stored) where
-  -- Some pairs are done: what the others lead to, to that all lead.
+  -- Some pairs are done: where the others lead, all lead.
   abbrev pub Leads : List Counts → Stored → Bool → ℕ → Option (List ℕ) → Type 0
   Leads pairs tables found sent here =
       (after : Option (List ℕ)) (result : Result (Unit {0}) Fault) → Verifies board files name pairs tables found sent here after result
@@ -212,7 +212,7 @@ module _ (board : Shape) (files : Option Files) (name : List ℕ) (start : Optio
 
   module _ (pairs : List Counts) (c : Counts) (tables : Stored) (found : Bool) (sent : ℕ) (here : Option (List ℕ))
       (leads : Leads (c ∷ pairs) tables found sent here) (near : Stored) (goes : RetainsNear tables near c) where
-    -- a file that isn't had
+    -- a file that can't be read
     pub failed_file : (f : Fault) → AnswersFile board files (name_of name c) c (Err f)
         → Verifies board files name (pairs_of board) empty false 0 start here (Err f)
     unfolding Verifies
@@ -224,7 +224,7 @@ module _ (board : Shape) (files : Option Files) (name : List ℕ) (start : Optio
     missing_file said = λ after result follows. leads after result (near, goes, (Ok None, said, follows))
 
     module _ (t : Table) (answer : AnswersFile board files (name_of name c) c (Ok (Some t))) (joined : Stored) (after : Option (List ℕ)) where
-      -- a table that isn't taken in, or not told of
+      -- a table that isn't taken in, or whose line isn't printed
       pub taken_wrong : (f : Fault) → TakesIn board near joined t sent here after (Err f)
           → Verifies board files name (pairs_of board) empty false 0 start after (Err f)
       unfolding Verifies

@@ -13,8 +13,8 @@ use Rattle.morris_jobs.specs.Inputs.{Input}
 use Rattle.morris_jobs.specs.Building.{RetainsNear}
 use Rattle.morris_folder_commands.specs.From.{TakesIn, end_of}
 
--- how far it is: the stock of tables, whether there was a file, how many bytes were printed, and
--- what the output has taken
+-- the state: the set of tables, whether there was a file, how many bytes were printed, and what the
+-- output has taken
 pub record Reached : Type 0 where
   pub tables : Stored
   pub some : Bool
@@ -24,15 +24,15 @@ pub record Reached : Type 0 where
 abbrev pub reached : Stored → Bool → ℕ → Option (List ℕ) → Reached
 reached tables some sent out = record { tables = tables; some = some; sent = sent; out = out }
 
--- What becomes of a table: those are let go that neither its pair nor one of more stones needs, and
--- then it joins the others and its line is printed; or the command ends.
+-- What becomes of a table: those are dropped that neither its pair nor one of more stones needs,
+-- and then it joins the others and its line is printed; or the command ends.
 abbrev pub TakesFile : Shape → Reached → Table → Reached → Result (Unit {0}) Fault → Type 0
 TakesFile board here t next taken =
     (near : Stored) × RetainsNear here.tables near t.pair × (next.some ≡ true)
     × TakesIn board near next.tables t here.sent here.out next.out (elim taken [ Ok done ↦ Ok next.sent | Err refused ↦ Err refused ])
 
--- What it answers on a board: there is no room for a stock, with nothing read and nothing printed;
--- otherwise what comes of the bundle, over an empty one.
+-- What it answers on a board: there is no room for a set of tables, with nothing read and nothing
+-- printed; otherwise what comes of the bundle, over an empty set.
 abbrev pub AnswersBundleOn : Shape → Input → Input → Option (List ℕ) → Option (List ℕ) → Result (Unit {0}) Fault → Type 0
 AnswersBundleOn board before after old new result =
     ((result ≡ Err fault.Memory) × (after ≡ before) × Keeps old new)

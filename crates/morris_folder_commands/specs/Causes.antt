@@ -14,9 +14,10 @@ MayBeLong name (Some files) = 65536 < length (list_in files name)
 -- The cause of a refusal. So many calls of the folder have failed before the command and after it:
 -- one more where the folder can't be made, found or locked; more where a file can't be opened. A
 -- file isn't written for a call of the folder that failed, or one of a writer; nor is the list of
--- digests left, or it isn't had for one of a reader, or since it is too long. A file of which a
--- read failed has a reader of which one did. Where another is at work, it isn't known that no other
--- has the lock. `reading` and `writing` count what failed of a reader and of a writer.
+-- digests left, or it isn't read for a call of a reader that failed, or since it is too long. A
+-- file of which a read failed has a reader of which one did. Where another is at work, it isn't
+-- known that no other has the lock. `reading` and `writing` count what failed of a reader and of a
+-- writer.
 abbrev pub IsCaused : {R W : Type 0} → (R → ℕ) → (W → ℕ) → Option Bool → Type 0 → ℕ → ℕ → Fault → Type 0
 IsCaused reading writing taken long old new fault.Folder = new ≡ old + 1
 IsCaused reading writing taken long old new fault.NoFolder = new ≡ old + 1

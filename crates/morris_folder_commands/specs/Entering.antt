@@ -39,19 +39,19 @@ abbrev pub IsLeft : List ℕ → List ℕ → Files → Files → Type 0
 IsLeft name [] old new = (new (digests_name_of name) ≡ None) × AreSameBut (digests_name_of name) old new
 IsLeft name (byte ∷ bytes) old new = AreWhole (digests_name_of name) (byte ∷ bytes) old new
 
--- the lines of files that aren't replaced are had, and the list has these alone
+-- the lines of files that aren't replaced were read, and the list has these alone
 pub record IsBegun (name : List ℕ) (replaced : Counts) (unchanged : List ℕ) (old new : Option Files) : Type 0 where
   pub lines : AreRetainedLines name replaced old unchanged
   pub left : Goes old new (IsLeft name unchanged)
 
--- the fault of lines that aren't had
+-- the fault of lines that weren't read
 abbrev pub list_fault : ListFault → Fault
 list_fault list.Memory = fault.Memory
 list_fault list.Unopened = fault.Digests
 list_fault list.Unread = fault.Digests
 list_fault list.Long = fault.Digests
 
--- they aren't, or the list isn't written: each file but the list and its part is as it was
+-- they weren't, or the list isn't written: each file but the list and its part is as it was
 abbrev pub IsUnbegun : List ℕ → Option Files → Option Files → Fault → Type 0
 IsUnbegun name old new fault.Memory = Goes old new (AreSameButTwo (digests_name_of name) (part_of (digests_name_of name)))
 IsUnbegun name old new fault.Digests = Goes old new (AreSameButTwo (digests_name_of name) (part_of (digests_name_of name)))

@@ -17,20 +17,20 @@ use Rattle.morris_jobs.specs.Faults.{PrintsLine}
 use Rattle.morris_jobs.specs.Building.{HasExactAt}
 use Rattle.morris_folder_commands.specs.Into.{Ends, Fills, FillsFolder, IsFiled, IsUnfiled, Place, filed_text}
 
--- what is told of the file of a table
+-- what is printed of the file of a table
 pub record IsOf {B : Type 0} (board : Shape) (t : Table) (w : Written B) : Type 0 where
   pub pair : w.pair ≡ t.pair
   pub entries : w.entries ≡ length t.codes
   pub bytes : w.bytes ≡ length (file_of board t)
   pub digest : w.digest ≡ sha256 (file_of board t)
 
--- the file of a table is written, and told of; or it isn't
+-- the file of a table is written, and what is printed of it is its own; or it isn't written
 abbrev pub StoresTable : {B : Type 0} → Shape → List ℕ → Table → Option Files → Option Files → Result (Written B) Fault → Type 0
 StoresTable board name t old new (Ok w) = IsFiled board name t old new × IsOf board t w
 StoresTable board name t old new (Err refused) = IsUnfiled board name t old new refused
 
--- once the file of digests is written, or isn't, the folder is filled; the list begins with the
--- lines that were kept
+-- once the list of digests is written, or isn't, the folder is filled; the list begins with the
+-- lines that were retained
 abbrev pub IsFilledBut : Shape → Layout → List ℕ → Counts → ℕ → List ℕ → Place → Place → List ℕ → Type 0
 IsFilledBut board l name pair blocks unchanged before here digests =
     (after : Place) (result : Result (Unit {0}) Fault) → Ends name (unchanged ++ digests) here after result → FillsFolder board l name pair blocks unchanged before after result
@@ -68,8 +68,8 @@ GoesOn board l name blocks from to (Ok done) = LeadsTo board l name blocks from 
 GoesOn board l name blocks from to (Err refused) =
     (unchanged : List ℕ) → Fills board l name blocks unchanged from.pairs from.sent from.digests from.here to.here (Err refused)
 
--- what is told of a file that was written, after others of which so many bytes were printed; or of
--- a refusal
+-- what is printed of a file that was written, after others of which so many bytes were printed; or
+-- of a refusal
 abbrev pub PrintsFile : {B : Type 0} → Result (Written B) Fault → List (Written B) → List (Written B) → ℕ → ℕ → Option (List ℕ) → Option (List ℕ)
     → Result (Unit {0}) Fault → Type 0
 PrintsFile (Err refused) old new sent now before after result = (result ≡ Err refused) × (after ≡ before)

@@ -23,11 +23,12 @@ use Rattle.morris_jobs.specs.Verified.{verified_text}
 abbrev pub fits : Shape → Counts → Bool
 fits board c = nat_le (c.greater + c.lesser) board.points
 
--- all pairs of a board, in order of their sum and then of the greater number
+-- all pairs of a board, in order of their sum and then of the larger number
 unfoldable pub pairs_of : Shape → List Counts
 pairs_of board = filter (fits board) all_pairs
 
--- the fault that a file which isn't had is told by: a flaw of the file says of which pair it is
+-- the fault that answers a stored file which can't be read: a flaw of the file says of which pair
+-- it is
 abbrev pub stored_fault : Counts → StoredFault → Fault
 stored_fault c stored.Memory = fault.Memory
 stored_fault c stored.Unopened = fault.Unopened c.greater c.lesser
@@ -42,19 +43,19 @@ verified_line t = verified_text t.pair (length t.codes)
 abbrev pub end_of : Bool → Result (Unit {0}) Fault
 end_of found = if found then Ok tt else Err fault.NoFiles
 
--- What follows from what a file is answered with: the fault of one that isn't had, with no line
--- more printed; the next pair, where there is no file; or what becomes of the table.
+-- What follows from the answer to a file: the fault of one that can't be read, with no line more
+-- printed; the next pair, where there is no file; or what becomes of the table.
 abbrev pub AfterFile : Counts → Option (List ℕ) → Option (List ℕ) → Result (Unit {0}) Fault → Type 0 → (Table → Type 0) → Result (Option Table) StoredFault → Type 0
 AfterFile c old new result next taken (Err refused) = (result ≡ Err (stored_fault c refused)) × Keeps old new
 AfterFile c old new result next taken (Ok None) = next
 AfterFile c old new result next taken (Ok (Some t)) = taken t
 
--- why a table doesn't join a stock, told of its file
+-- why a table doesn't join a set of tables, as the fault of its file
 abbrev pub IsUnfitFile : Shape → Stored → Table → Fault → Type 0
 IsUnfitFile board tables t f = (refused : Fault) × IsUnfit board tables t refused × (f ≡ in_file t.pair refused)
 
--- What becomes of a table over a stock: it doesn't join the stock, with no line more printed; or it
--- does, which it can only where each of its codes is the game's, and its line is printed, or its
+-- What becomes of a table over a set of tables: it doesn't join them, with no line more printed; or
+-- it does, which it can only where each of its codes is the game's, and its line is printed, or its
 -- first bytes are. `sent` bytes were printed before.
 abbrev pub TakesIn : Shape → Stored → Stored → Table → ℕ → Option (List ℕ) → Option (List ℕ) → Result ℕ Fault → Type 0
 TakesIn board tables joined t sent old new result =
@@ -71,9 +72,9 @@ AfterTable board tables sent old new result next t =
     (joined : Stored) × (out : Option (List ℕ)) × (taken : Result ℕ Fault) × TakesIn board tables joined t sent old out taken
     × AfterTaking out new result (λ now. next joined now out) taken
 
--- The pairs are gone through in order: at the turn of each the tables are let go that no pair from
--- it on needs, whether the folder has its file or not; the file is read where the folder has it,
--- and its table taken into the stock before the next. `sent` bytes were printed before, and `found`
+-- The pairs are gone through in order: at the turn of each, those tables are dropped that no pair
+-- from it on needs, whether the folder has its file or not; the file is read where the folder has
+-- it, and its table joins the others before the next. `sent` bytes were printed before, and `found`
 -- says whether there was a file before.
 unfoldable pub Verifies : Shape → Option Files → List ℕ → List Counts → Stored → Bool → ℕ → Option (List ℕ) → Option (List ℕ) → Result (Unit {0}) Fault → Type 0
 Verifies board files name [] tables found sent old new result = (result ≡ end_of found) × Keeps old new
@@ -83,8 +84,8 @@ Verifies board files name (c ∷ pairs) tables found sent old new result =
     × AfterFile c old new result (Verifies board files name pairs near found sent old new result)
     (AfterTable board near sent old new result (λ joined more out. Verifies board files name pairs joined true more out new result)) answer)
 
--- What it answers in a folder that is there: there is no room for a stock, with nothing printed;
--- otherwise what comes of all pairs, over an empty one.
+-- What it answers in a folder that is there: there is no room for a set of tables, with nothing
+-- printed; otherwise what comes of all pairs, over an empty set.
 abbrev pub AnswersFound : Shape → Option Files → List ℕ → Option (List ℕ) → Option (List ℕ) → Result (Unit {0}) Fault → Type 0
 AnswersFound board files name old new result =
     ((result ≡ Err fault.Memory) × Keeps old new)

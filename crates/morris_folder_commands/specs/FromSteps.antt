@@ -1,4 +1,4 @@
--- The steps of `verify --from`.
+-- The parts of `verify --from`.
 use Rattle.std.specs.Prelude.{◌≡◌, ℕ, ◌+◌, ◌-◌, ◌^◌, ◌<◌, ◌⊎◌, ⊤, List, true, false, slice_get, Option, Some, None, Result, Ok, Err}
 use Rattle.morris_board.specs.Boards.{Shape}
 use Rattle.morris_index.specs.Pairs.{Counts, all_pairs}
@@ -33,7 +33,7 @@ StopsAt board end old new =
     ((end ≡ 28) × (new ≡ old))
     ⊎ ((c : Counts) × place_is board end (Some c) × (old < new))
 
--- What was read ahead of a file of this name: what its reading answers. It was opened, and a read
+-- What was read ahead of a file of this name: the answer to reading it. It was opened, and a read
 -- that failed was one of a reader.
 abbrev pub IsReadAhead : {R : Type 0} → (R → ℕ) → Shape → Option Files → List ℕ → Counts → Result (Option Table) StoredFault → Type 0
 IsReadAhead reading board files name c answer =

@@ -64,7 +64,7 @@ pub record IsBuilt (board : Shape) (l : Layout) (c : Counts) (t : Table) : Type 
 abbrev pub IsFiled : Shape → List ℕ → Table → Option Files → Option Files → Type 0
 IsFiled board name t old new = Goes old new (AreWhole (name_of name t.pair) (file_of board t))
 
--- the fault that a file which isn't written is told by: want of memory, or that it isn't
+-- the fault that answers a file which isn't written: want of memory, or that it isn't
 abbrev pub step_fault : Fault → Step → Fault
 step_fault reported step.Memory = fault.Memory
 step_fault reported _ = reported
@@ -88,7 +88,7 @@ AfterDoing here after result next (Ok now) = next now
 
 -- ---- all pairs
 
--- What is done at the end: the file of digests is written, with this text, or it isn't.
+-- What is done at the end: the list of digests is written, with this text, or it isn't.
 abbrev pub Ends : List ℕ → List ℕ → Place → Place → Result (Unit {0}) Fault → Type 0
 Ends name digests before after (Ok done) =
     Goes before.files after.files (AreWhole (digests_name_of name) digests) × Keeps before.out after.out
@@ -101,10 +101,10 @@ abbrev pub digest_of : Shape → List ℕ → Table → List ℕ
 digest_of board name t = digest_line name t.pair (sha256 (file_of board t))
 
 -- The pairs are done one after the other: a table is built, its file written and its line printed,
--- before anything is written or told of the next pair. The first refusal ends it: the pair isn't
+-- before anything is written or printed of the next pair. The first refusal ends it: the pair isn't
 -- built, and all is as it was; or it is built and not done. `sent` bytes were printed before, and
--- the files that were written before have these digests. At the end the list has the lines that
--- were kept, and then these.
+-- the files that were written before have these digests. At the end the list has the retained
+-- lines, and then these.
 unfoldable pub Fills : Shape → Layout → List ℕ → ℕ → List ℕ → List Counts → ℕ → List ℕ → Place → Place → Result (Unit {0}) Fault → Type 0
 Fills board l name blocks retained [] sent digests before after result = Ends name (retained ++ digests) before after result
 Fills board l name blocks retained (c ∷ pairs) sent digests before after result =
@@ -116,14 +116,14 @@ Fills board l name blocks retained (c ∷ pairs) sent digests before after resul
 
 -- ---- the answer
 
--- What it answers once the list of digests has the lines alone that are kept: there is no room to
--- begin, with nothing written; otherwise the pairs below are done, the pair's own the last.
+-- What it answers once the list of digests has the retained lines alone: there is no room to begin,
+-- with nothing written; otherwise the pairs below are done, the pair's own the last.
 abbrev pub FillsFolder : Shape → Layout → List ℕ → Counts → ℕ → List ℕ → Place → Place → Result (Unit {0}) Fault → Type 0
 FillsFolder board l name pair blocks retained before after result =
     ((result ≡ Err fault.Memory) × StaysPut before after) ⊎ Fills board l name blocks retained (below_of pair) 0 [] before after result
 
--- What it answers in a folder that is locked: the list of digests can't be had, or not be left with
--- the lines of those files alone that aren't replaced; otherwise what it answers once it is.
+-- What it answers in a folder that is locked: the list of digests can't be read, or not be left
+-- with the lines of those files alone that aren't replaced; otherwise what it answers once it is.
 abbrev pub AnswersLocked : Shape → Layout → List ℕ → Counts → ℕ → Place → Place → Result (Unit {0}) Fault → Type 0
 AnswersLocked board l name pair blocks before after result =
     ((refused : Fault) × (result ≡ Err refused) × IsUnbegun name before.files after.files refused × Keeps before.out after.out)

@@ -25,13 +25,13 @@ use std::alloc::Global;
 use std::thread;
 use std::thread::Threads;
 
-/// What is known of files before their turn.
+/// What is known of the files of later pairs.
 #[derive(Drop)]
 pub(crate) struct Ahead<B: Geometry> {
-    /// The place of the first pair whose file can't be opened, as far as is known, and past all
-    /// pairs where each can.
+    /// The place of the first pair whose file can't be opened, as far as is known; past all pairs
+    /// where each can.
     pub(crate) end: usize,
-    /// What was answered of the file of the next pair, where it was read ahead.
+    /// What reading the file of the next pair answered, where it was read ahead.
     pub(crate) answer: Option<Result<Option<Raw<B>>, StoredFault>>,
 }
 
@@ -45,8 +45,8 @@ pub(crate) struct Opened<B: Geometry, S> {
 }
 
 /// Opens the file of the pair after this place, to be read while that of the place is verified,
-/// where more than one are at work. That there is no file, or that it can't be opened, is told in
-/// its turn, and it isn't opened again.
+/// where there are several workers. That there is no file, or that it can't be opened, is answered
+/// at its turn, and it isn't opened again.
 pub(crate) fn open_next<B: Geometry, F: Folder>(
     alloc: Global,
     parallelism: Parallelism,
@@ -68,7 +68,7 @@ pub(crate) fn open_next<B: Geometry, F: Folder>(
     ensures unchanged { AreUnchanged (F.files folder.old) (F.files folder.new) }
 {
     let next = place + 1;
-    // Where it isn't opened, there has to be room for one failure more.
+    // Where it isn't opened, there has to be room to count one more failure.
     if parallelism.workers == 1 || next >= PAIR_COUNT || next == ahead.end {
         return None;
     }
@@ -82,14 +82,14 @@ pub(crate) fn open_next<B: Geometry, F: Folder>(
         Ok(Some(reader)) => return Some(Opened { pair, reader }),
         Ok(None) => ahead.answer = Some(Ok(None)),
         Err(StoredFault::Unopened) => ahead.end = next,
-        // Memory was refused for its name, and may be there in its turn.
+        // Memory was refused for its name, and may be there at its turn.
         Err(_) => {}
     }
     None
 }
 
-/// What was read ahead, but for want of memory: while no other table is at work, there may be
-/// room for it.
+/// What was read ahead, unless memory ran out: at its turn no other table is being verified, and
+/// there may be room for it.
 fn unless_roomless<B: Geometry>(
     answer: Result<Option<Raw<B>>, StoredFault>,
 ) -> Option<Result<Option<Raw<B>>, StoredFault>>
@@ -101,7 +101,7 @@ fn unless_roomless<B: Geometry>(
     }
 }
 
-/// Takes a table in that is held, as [`take_in`] does.
+/// Takes in a table that is held, as [`take_in`] does.
 fn take_held<B: Board, R: Threads + Sync, O: Sink, T: Progress>(
     rt: &R,
     alloc: Global,
@@ -131,7 +131,7 @@ fn take_held<B: Board, R: Threads + Sync, O: Sink, T: Progress>(
     take_in(context, tables, raw, sent, output, progress)
 }
 
-/// Takes a table in, as [`take_in`] does, while another thread reads the file of a pair. Where no
+/// Takes in a table, as [`take_in`] does, while another thread reads the file of a pair. Where no
 /// thread can be started, this one reads it afterwards.
 fn take_in_reading<B: Board, R: Threads + Sync, S: Source + Send, O: Sink, T: Progress>(
     rt: &R,
@@ -172,7 +172,7 @@ fn take_in_reading<B: Board, R: Threads + Sync, S: Source + Send, O: Sink, T: Pr
     (taken, read)
 }
 
-/// Takes a table in, as [`take_in`] does, and reads the file that was opened ahead meanwhile, where
+/// Takes in a table, as [`take_in`] does, and meanwhile reads the file that was opened ahead, where
 /// one was.
 pub(crate) fn take_in_beside<
     B: Board,

@@ -23,15 +23,15 @@ use std::thread::Threads;
 const MOST_FILES: u8 = 64;
 
 /// Reads table files of the board named `board` from `input`, one after the other to its end, at
-/// most 64 of them, in either version; and tells of each on `output`, before it reads the next,
-/// that its table is right: that each of its codes is known to be that of the game, over the tables
+/// most 64 of them, in either version; and before it reads the next, states of each on `output`
+/// that its table is right: that each of its codes is known to be that of the game, by the tables
 /// before it. A table rests on those of the pairs that its pair needs, whose files have to come
-/// before it. Once a file is read, the tables are let go that neither its pair needs nor one of
+/// before it. Once a file is read, those tables are dropped that neither its pair needs nor one of
 /// more stones: so the files come in order of the stones of their pairs, as `build` writes all of
-/// them. The workers of a team share the entries of a table out among them.
+/// them. The workers divide the entries of a table among themselves.
 ///
-/// Who is told how far it is hears of the entries of the first file at first, since no one knows
-/// how many files follow.
+/// At first `progress` gets the number of entries of the first file alone, since it isn't known how
+/// many files follow.
 ///
 /// Fewer than `u64::MAX` calls of either stream may have failed before.
 ///
@@ -92,7 +92,7 @@ fn bundle_on<B: Board, R: Threads + Sync, I: Source, O: Sink, T: Progress>(
             return Err(Fault::TooMany);
         }
         let (pair, entries) = (raw.pair(), raw.len());
-        // What was told before isn't told again.
+        // What was reported before isn't reported again.
         progress.start_with_size(FolderSize::NONE.with(pair, entries).size);
         drop_unneeded(&mut tables, false, pair);
         sent = take_in(context, &mut tables, raw, sent, output, progress)?;

@@ -1,5 +1,5 @@
-//! How a folder is entered in which files are replaced: it is locked, and its list of digests
-//! forgets them.
+//! How a folder whose files are to be replaced is entered: it is locked, and its list of digests
+//! drops the lines of those files.
 ghost use Rattle.std.specs.Prelude.{◌≡◌, ◌-◌, ◌^◌, ◌<◌, [], Some, true, false, IfErr, MatchResult, OnOk, Ok, Err};
 ghost use Rattle.morris_files.specs.Files.{Goes};
 ghost use Rattle.morris_jobs.specs.Faults.{is_write};
@@ -22,7 +22,7 @@ use std::alloc::Global;
 /// The name of the file by which a folder is locked. It stays there.
 const LOCK: &str = ".morris.lock";
 
-/// Makes a folder where there is none, and locks it for as long as `folder` is kept.
+/// Makes a folder where there is none, and locks it for as long as `folder` lives.
 ///
 /// # Errors
 /// [`Fault::Folder`] where it can't be made; else [`Fault::NoFolder`] where its path is empty or
@@ -48,9 +48,10 @@ pub(crate) fn enter<F: Folder>(folder: &mut F) -> Result<(), Fault>
     }
 }
 
-/// The lines of a folder's list of digests, on the board of this name, but for those of the files
-/// that are replaced: of all pairs below a pair, its own among them. The list is left with these
-/// alone, so that it is right while files are replaced, and whatever ends the program then.
+/// The lines that a folder's list of digests retains, on the board of this name: all but those of
+/// the files that are replaced, which are those of all pairs below a pair, its own among them. The
+/// list is left with these alone, so that it stays right while files are replaced, whatever ends
+/// the program then.
 ///
 /// # Errors
 /// [`Fault::Memory`] where memory is refused; [`Fault::Digests`] where the list can't be read or
@@ -80,7 +81,7 @@ pub(crate) fn begin_list<B: Geometry, F: Folder>(
     }
 }
 
-/// The fault of a list of digests that isn't had.
+/// The fault of a list of digests that couldn't be read.
 fn list_fault(refused: ListFault) -> Fault
     ensures { result ≡ list_fault refused }
 {
@@ -117,7 +118,7 @@ fn leave_list<B: Geometry, F: Folder>(
     }
 }
 
-/// The fault of a file that isn't written, by the step that failed: want of memory, or `fault`.
+/// The fault of a file that isn't written, by the step that failed: `fault`, or want of memory.
 pub(crate) fn step_fault(fault: Fault, step: Step) -> Fault
     ensures { result ≡ step_fault fault step }
 {

@@ -16,9 +16,9 @@ use std::alloc::{AllocError, Global};
 /// How far a folder is filled: the files that were written, and the one that waits.
 #[derive(Drop)]
 pub(crate) struct Filled<B: Geometry> {
-    // What is told of each file that was written, in order.
+    // What is printed of each file that was written, in order.
     pub(crate) written: Vec<Written<B>>,
-    // How many bytes were printed of that.
+    // How many bytes that was.
     pub(crate) sent: u64,
     // The pair whose table is there and whose file isn't written.
     pub(crate) waiting: Option<Pair<B>>,
@@ -43,7 +43,7 @@ impl<B: Geometry> Filled<B> {
         })
     }
 
-    /// Tells of a file that was written.
+    /// Prints the line of a file that was written.
     pub(crate) fn print_line<O: Sink>(
         &mut self,
         file: Result<Written<B>, Fault>,

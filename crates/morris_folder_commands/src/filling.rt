@@ -1,4 +1,4 @@
-//! The steps of `build --into`: a table is built while the file of the one before is written.
+//! The steps of `build --into`: a table is built while the file of the one before it is written.
 ghost use Rattle.std.specs.Prelude.{◌≡◌, ℕ, ◌+◌, ◌-◌, ◌^◌, ◌<◌, ◌≤◌, ◌∷◌, List, Option, None, Some, true, false, is_some, length, option_to_list, vec_len, IfErr, IfOk, IfSome, OnOk};
 ghost use Rattle.std.specs.Io.KnownBytes.{Appends};
 ghost use Rattle.sha2.specs.Sha256.{sha256};
@@ -38,7 +38,7 @@ use std::sync::Wait;
 use std::thread;
 use std::thread::Threads;
 
-/// The tables that go into a folder, and who builds them.
+/// The tables that go into a folder, and what they are built with.
 #[derive_where(Clone, Copy)]
 pub(crate) struct Filling<'a, B: Geometry, R> {
     pub(crate) context: Context<'a, R>,
@@ -142,7 +142,7 @@ fn store_table<B: Geometry, F: Folder, W: Watch>(
     end_file(table, part, written, folder)
 }
 
-/// Writes the file that waits, where one does, and tells of it.
+/// Writes the file that waits, where one does, and prints its line.
 pub(crate) fn file_waiting<B: Geometry, R, F: Folder, O: Sink, W: Watch>(
     filling: &Filling<'_, B, R>,
     filled: &mut Filled<B>,
@@ -229,7 +229,7 @@ fn build_writing<B: Board, R: Threads + Wait + Sync, S: Sink + Send, T: Progress
 }
 
 /// Builds the table of a pair, and meanwhile writes the file that waits, where one does, and then
-/// tells of it.
+/// prints its line.
 pub(crate) fn build_beside<B: Board, R: Threads + Wait + Sync, F: Folder, O: Sink, T: Progress>(
     filling: &Filling<'_, B, R>,
     filled: &mut Filled<B>,

@@ -33,14 +33,14 @@ use std::alloc::Global;
 use std::thread::Threads;
 
 /// Goes through all pairs of the board named `board`, in order of their sum of stones and then of
-/// the greater number: reads the file of each that a folder has, under the name of its pair, and
-/// tells on `output` that the table is right as soon as each of its codes is known to be that of
-/// the game, over the tables before it. A table rests on those of the pairs that its pair needs,
-/// whose files have to be there; before the file of a pair is read the tables are let go that
-/// neither it needs nor any pair after it. The workers of a team share its entries out among them,
-/// and where they are more than one, the file of the next pair is read meanwhile, by a thread of
-/// its own. What comes of that is told in its turn; if memory is refused for it, it is read then.
-/// Where anyone is told, the header of each file is read first, so that it is known how much there
+/// the larger number: reads the file of each that a folder has, under the name of its pair, and
+/// states on `output` that the table is right as soon as each of its codes is known to be that of
+/// the game, by the tables before it. A table rests on those of the pairs that its pair needs,
+/// whose files have to be there; before the file of a pair is read, those tables are dropped that
+/// neither it needs nor any pair after it. The workers divide its entries among themselves, and
+/// where there are several, a thread of its own meanwhile reads the file of the next pair. What
+/// comes of that is answered at its turn; if memory is refused for it, it is read then. Where
+/// progress is reported, the header of each file is read first, so that it is known how much there
 /// is to do.
 ///
 /// Fewer than `u64::MAX` calls of the folder may have failed before.
@@ -137,7 +137,7 @@ where
     )
 }
 
-/// Verifies the tables of all pairs, over a stock without tables, where nothing was read ahead.
+/// Verifies the tables of all pairs, over a set without tables, where nothing was read ahead.
 fn verify_pairs<B: Board, R: Threads + Sync, F: Folder, O: Sink, T: Progress>(
     context: Context<'_, R>,
     board: &str,
@@ -165,7 +165,7 @@ where
         let Some(pair) = pair_at::<B>(place) else {
             continue;
         };
-        // Also where there is no file.
+        // Also where the folder has no file of the pair.
         drop_unneeded(tables, false, pair);
         if place == ahead.end {
             return Err(Fault::Unopened(pair.greater(), pair.lesser()));
@@ -195,7 +195,7 @@ pub(crate) fn end_of(found: bool) -> Result<(), Fault>
     if found { Ok(()) } else { Err(Fault::NoFiles) }
 }
 
-/// What the reading of the file of a pair answers: what is known of it, or what it answers now.
+/// The answer to reading the file of a pair: the one that is known, or what reading it answers now.
 fn read_or_known<B: Geometry, F: Folder>(
     alloc: Global,
     board: &str,
@@ -218,7 +218,7 @@ fn read_or_known<B: Geometry, F: Folder>(
     }
 }
 
-/// The table of a pair, where a folder has its file, of which this may be known.
+/// The table of a pair, where a folder has its file; the answer to reading that may be known.
 fn read_stored<B: Geometry, F: Folder>(
     alloc: Global,
     board: &str,
@@ -244,8 +244,8 @@ fn read_stored<B: Geometry, F: Folder>(
     }
 }
 
-/// Puts a table into a stock once each of its entries is known to be right over those in it, and
-/// prints its line, where so many bytes were printed before; the answer counts these as well.
+/// Adds a table to a set once each of its entries is known to be right by those in the set, and
+/// prints its line. So many bytes were printed before; the answer counts these as well.
 pub(crate) fn take_in<B: Board, R: Threads + Sync, O: Sink, T: Progress>(
     context: Context<'_, R>,
     tables: &mut TableSet<B>,

@@ -30,29 +30,29 @@ use std::alloc::Global;
 use std::sync::Wait;
 use std::thread::Threads;
 
-/// Builds the tables of all pairs below the one that the text `pair` names on the board named
-/// `board`, in order and the pair's own among them, and writes the file of each into a folder once
-/// it is built, under the name of its pair; after each a line that tells its entries, its bytes and
-/// its SHA-256 goes out on `output`. Where there are several workers, a thread of its own writes the
-/// file while the next table is built, and its line comes after that. The folder is made where there
-/// is none, and locked from before its first file to after its last, so that no other build is at
-/// work in it. The file of the digests first forgets the files that are replaced; at the end it has
-/// the lines of those that are not, and then those of the files that were written. Each file is
+/// Builds the tables of all pairs below a pair on the board named `board`, in order and the pair's
+/// own among them; `pair` is its name, such as `4-3`. It writes the file of each into a folder once
+/// it is built, under the name of its pair; after each, a line with its entries, its bytes and its
+/// SHA-256 goes out on `output`. Where there are several workers, a thread of its own writes the
+/// file while the next table is built, and its line comes after that. The folder is made where
+/// there is none, and locked from before its first file to after its last, so that no other build
+/// is at work in it. The list of digests first drops the files that are replaced; at the end it has
+/// the lines of those that aren't, and then those of the files that were written. Each file is
 /// written whole or not at all.
 ///
 /// The rest is as [`build_out`](morris_commands::build::build_out) has it. Fewer than
 /// `u64::MAX - 1` calls of the folder may have failed before.
 ///
 /// # Errors
-/// Those of [`build_out`](morris_commands::build::build_out) for the words, in the same order;
+/// Those of [`build_out`](morris_commands::build::build_out) for the arguments, in the same order;
 /// nothing is then written, and the folder isn't touched. Else [`Fault::Folder`] where the folder
 /// can't be made, else [`Fault::NoFolder`] where its path is empty or stands for something else,
 /// else [`Fault::Unlocked`] where it can't be locked, or [`Fault::Busy`] where another build is at
-/// work in it. Else [`Fault::Digests`] where the file of the digests can't be read or written. Else
-/// the first refusal: one of a build; [`Fault::Unwritten`] where a file can't be written;
+/// work in it. Else [`Fault::Digests`] where the list of digests can't be read or written. Else the
+/// first refusal: one of a build; [`Fault::Unwritten`] where a file can't be written;
 /// [`Fault::Write`], with all bytes that went out, at the first write to `output` that fails; at
-/// last [`Fault::Digests`] where the file of the digests can't be written; or [`Fault::Memory`]
-/// where memory is refused. The files that were written before stay.
+/// last [`Fault::Digests`] where the list of digests can't be written; or [`Fault::Memory`] where
+/// memory is refused. The files that were written before stay.
 pub fn build_into<R: Threads + Wait + Sync, F: Folder, O: Sink, T: Progress>(
     rt: &R,
     alloc: Global,
@@ -128,8 +128,7 @@ where
     into_folder(&filling, folder, output, progress)
 }
 
-/// Fills a folder, which is made where there is none and locked, and writes the file of the
-/// digests.
+/// Fills a folder, which is made where there is none and locked, and writes the list of digests.
 fn into_folder<B: Board, R: Threads + Wait + Sync, F: Folder, O: Sink, T: Progress>(
     filling: &Filling<'_, B, R>,
     folder: &mut F,
@@ -153,8 +152,8 @@ where
     fill_locked(filling, unchanged.as_slice(), folder, output, progress)
 }
 
-/// Fills a folder that is locked, and writes the file of the digests, which begins with lines that
-/// were kept.
+/// Fills a folder that is locked, and writes the list of digests, which begins with the lines that
+/// were retained.
 fn fill_locked<B: Board, R: Threads + Wait + Sync, F: Folder, O: Sink, T: Progress>(
     filling: &Filling<'_, B, R>,
     unchanged: &[u8],
@@ -184,8 +183,8 @@ where
     )
 }
 
-/// The tables of all pairs below a pair, its own among them, into a folder that is there; the
-/// answer tells of their files.
+/// Builds the tables of all pairs below a pair, its own among them, into a folder that is there,
+/// and answers what their lines in the list of digests are made of.
 fn fill<B: Board, R: Threads + Wait + Sync, F: Folder, O: Sink, T: Progress>(
     filling: &Filling<'_, B, R>,
     folder: &mut F,
@@ -267,7 +266,7 @@ where
     file_waiting(filling, filled, tables, folder, output, progress)
 }
 
-/// Writes the file of the digests: lines that were kept, and those of these files.
+/// Writes the list of digests: the lines that were retained, and those of these files.
 fn end<B: Geometry, F: Folder>(
     alloc: Global,
     board: &str,

@@ -18,13 +18,13 @@ use std::alloc::Global;
 struct Survey {
     /// How much there is to do.
     size: Size,
-    /// The place of the first pair whose file can't be opened, and past all pairs where each can.
+    /// The place of the first pair whose file can't be opened; past all pairs where each can.
     end: usize,
 }
 
-/// Tells how much there is to do in a folder, where anyone is told, and answers the place of the
-/// first pair whose file can't be opened, or how many places there are. What follows that file is
-/// left out, since its turn never comes.
+/// Reports how much there is to do in a folder, where progress is reported, and answers the place
+/// of the first pair whose file can't be opened, or how many places there are. What follows that
+/// file is left out, since its turn never comes.
 ///
 /// # Errors
 /// [`Fault::Memory`] where memory is refused for the name of a file.
@@ -40,7 +40,7 @@ pub(crate) fn look_ahead<B: Geometry, F: Folder, T: Progress>(
     ensures unchanged { AreUnchanged (F.files folder.old) (F.files folder.new) }
     ensures reported { T.becomes progress.old progress.new }
 {
-    // Where a file isn't opened here, there has to be room for one failure more.
+    // Where a file isn't opened here, there has to be room to count one more failure.
     if !progress.is_reported() || folder.failures() >= u64::MAX - 1 {
         return Ok(PAIR_COUNT);
     }

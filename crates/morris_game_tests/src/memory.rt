@@ -1,4 +1,4 @@
-//! A folder in memory, for tests: each of its calls can be told to fail.
+//! A folder in memory, for tests: each of its calls can be made to fail.
 ghost use Rattle.std.specs.Prelude.{◌≡◌, ◌≢◌, ℕ, ◌+◌, ◌-◌, ◌^◌, ◌<◌, false, List, Some, None, OnOk, OnErr};
 ghost use Rattle.std.specs.Option.{option_map};
 ghost use Rattle.morris_files.specs.Files.{AreSame, AreSameBut};
@@ -34,7 +34,7 @@ struct Lock {
     taken: bool,
 }
 
-/// A folder in memory. A call that is refused memory fails as one that was told to.
+/// A folder in memory. A call that is refused memory fails like one that is made to fail.
 #[derive(Drop)]
 pub struct MemoryFolder {
     alloc: Global,
@@ -46,9 +46,9 @@ pub struct MemoryFolder {
 }
 
 impl MemoryFolder {
-    /// A folder without files, of which no one holds the lock. Of its calls those fail whose bits
-    /// are set in `calls`, of the writes of each of its writers those whose bits are set in
-    /// `writes`: bit n is that of the call before which there were n.
+    /// A folder without files, whose lock no one holds. Those of its calls fail whose bits are set
+    /// in `calls`, and those of the writes of each of its writers whose bits are set in `writes`:
+    /// bit n is that of the call before which there were n.
     pub fn new(alloc: Global, calls: u64, writes: u64) -> MemoryFolder
         ensures none { (name : List ℕ) → files_of result name ≡ None }
         ensures failures { failures_of result ≡ 0 }
@@ -71,7 +71,7 @@ impl MemoryFolder {
         }
     }
 
-    /// Says whether another holds the lock from now on. It isn't a call that can be told to fail.
+    /// Says whether another holds the lock from now on. It isn't a call that can be made to fail.
     pub fn set_taken(&mut self, taken: bool)
         ensures taken { taken_of self.new ≡ taken }
         ensures held { locked_of self.new ≡ locked_of self.old }
@@ -81,8 +81,8 @@ impl MemoryFolder {
         self.lock.taken = taken;
     }
 
-    /// Puts a file with these bytes under a name, in the place of one that is there. It isn't a
-    /// call that can be told to fail.
+    /// Puts a file with these bytes under a name, in place of one that is there. It isn't a call
+    /// that can be made to fail.
     ///
     /// # Errors
     /// [`AllocError`] where memory is refused. Then no file is changed.
@@ -155,7 +155,7 @@ impl MemoryFolder {
         self.keep(name, Vec::new(self.alloc))
     }
 
-    /// Puts the bytes of the file of one name under the other as well.
+    /// Puts the bytes of the file of one name under the other too.
     fn copy(&mut self, from: &str, to: &str) -> Result<(), AllocError>
         ensures this { OnOk result (files_of self.new to.now ≡ files_of self.old from.now) }
         ensures others { OnOk result (AreSameBut to.now (files_of self.old) (files_of self.new)) }

@@ -1,5 +1,5 @@
--- Laws of the pairs below a pair: the steps through the table of all pairs, and the order in which
--- they stand.
+-- Laws of the pairs below a pair: how the table of all pairs is gone through, and the order in
+-- which they stand.
 use Rattle.std.proofs.Common.{◌≡◌, ℕ, zero, suc, ◌+◌, ◌-◌, ◌<◌, ◌≤◌, Bool, true, false, not, ◌&&◌, ◌||◌, eqb, leb, List, [], ◌∷◌, ◌++◌, map, length, take, drop, get_or, refl, sym, ◌∙◌, ap, subst, inl, inr, arith, append_assoc, Some, option_map}
 use Rattle.std.specs.List.{range_with_len, list_all, list_any, filter, Contains, slice_get}
 use Rattle.std.proofs.lemmas.Bool.{cases_eq, both_ways, eqb-true, leb-true, le-leb, and_parts}

@@ -1,4 +1,4 @@
--- The moves that a move is carried to: the entries from which they lead, symmetry by symmetry.
+-- The predecessors by an un-move, symmetry by symmetry, and their entries.
 use Rattle.std.proofs.Common.{◌≡◌, ◌≢◌, ℕ, ◌+◌, ◌-◌, ◌^◌, ◌<◌, ◌≤◌, Bool, true, false, not, ◌&&◌, ◌||◌, eqb, ltb, List, [], ◌∷◌, ◌++◌, map, filter, refl, sym, ◌∙◌, ap, ap₂, subst, inl, inr, arith, append_assoc}
 use Rattle.std.specs.List.{range_with_len, list_all}
 use Rattle.std.proofs.lemmas.Bool.{cases_eq, cases_lt, ne_eqb, lt-ltb, le-ltb, ltb-true, and_parts, and_from, and_right}
@@ -82,9 +82,10 @@ both_and : (a b c : Bool) → ((a && b) && (a && c)) ≡ (a && (b && c))
 both_and true b c = refl
 both_and false b c = refl
 
--- ---- the symmetries that carry a position
+-- ---- the symmetries that give un-moves
 
--- those that lead the stones `mover` and return from the images of the stones of p's player
+-- those that are canonicalizing for the stones `mover` and in the transversal of p's player's
+-- stones
 module _ (board : Shape) (p : Sides) (mover canonicalizing transversal member_symmetries : ℕ) (set_classes : AreCanonicalizing board mover canonicalizing) (returns : IsTransversal board p.own transversal)
     (common : (t : ℕ) → has member_symmetries t ≡ (has canonicalizing t && has transversal t)) where
   pub both_carry : (t : ℕ) → has member_symmetries t ≡ (ltb t board.symmetries && gives_unmove board p mover t)
@@ -102,13 +103,13 @@ module _ (board : Shape) (p : Sides) (mover member_symmetries : ℕ) (carry : (t
       let both = and_parts (ltb t board.symmetries) (gives_unmove board p mover t) (sym (carry t) ∙ inside) in
       (ltb-true t board.symmetries both.0, both.1)
 
--- ---- the image of a position under a symmetry that leads the player to move
+-- ---- the image of a position under a canonicalizing symmetry
 
 -- the rank of the other player's stones in it
 abbrev pub carried_rank : Shape → Sides → ℕ → ℕ
 carried_rank board q t = rank_of (map (number_outside (representative_of board q.own)) (members (image_of (board.image t) q.other)))
 
--- from what its entry is found: the images of these stones, outside the representative, on which the
+-- what its entry is found from: the images of these stones, outside the representative on which the
 -- player to move stands
 pub record IsCarried (board : Shape) (n : ℕ) (q : Sides) (t : ℕ) : Type 0 where
   pub own : image_of (board.image t) q.own ≡ representative_of board q.own
@@ -182,7 +183,7 @@ module _ (board : Shape) (n : ℕ) (few : n ≤ 24) (points : board.points ≡ n
       entry = λ c. sym (entry-parts board n few points y c unmoved ∙ ap₂ (λ a b. a + b) (same_start c) rank_same);
     }
 
-  -- ---- the position before a quiet move
+  -- ---- the predecessor by a quiet un-move
 
   module _ (q : InPair) (transversal : ℕ) (k : HasTransversal board q transversal) (u v : ℕ) (u_in : u < n)
       (vacant : not (has q.position.own u || has q.position.other u) ≡ true) (here : has q.position.other v ≡ true) where
@@ -210,11 +211,11 @@ module _ (board : Shape) (n : ℕ) (few : n ≤ 24) (points : board.points ≡ n
       carrying_is : (t : ℕ) → has member_symmetries t ≡ (ltb t board.symmetries && gives_unmove board s before.own t)
       carrying_is = both_carry board s before.own canonicalizing transversal member_symmetries set_classes k.returns common
 
-      -- the symmetries that carry the move
+      -- the symmetries that give un-moves
       pub members_are : board.symmetries ≤ 32 → members member_symmetries ≡ filter (gives_unmove board s before.own) (range_with_len 0 board.symmetries)
       members_are = carrying_members board s before.own member_symmetries carrying_is
 
-      -- one of them, and what it makes of the position before
+      -- one of them, and what it makes of the predecessor
       pub carried_before : (t : ℕ) → has member_symmetries t ≡ true
           → (t < board.symmetries) × IsCarried board n before t
       carried_before t inside =

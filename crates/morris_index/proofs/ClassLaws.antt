@@ -21,9 +21,9 @@ pub all_range : (test : ℕ → Bool) (a n : ℕ) → ((k : ℕ) → k < a + n �
 all_range test a zero each = refl
 all_range test a (suc n) each = and_from _ _ (each a (omega arith)) (all_range test (a + 1) n (λ k low. each k (omega arith)))
 
--- ---- the symmetry that leads to the least image
+-- ---- the canonicalizing symmetry
 
--- symmetry s leads to the image with the least mask, and no lesser symmetry does
+-- symmetry s gives the image with the least mask, and no lesser symmetry does
 pub record IsFirst (board : Shape) (count set s : ℕ) : Type 0 where
   pub within : s < count
   pub least : (t : ℕ) → t < count → image_of (board.image s) set ≤ image_of (board.image t) set
@@ -101,9 +101,9 @@ module _ (board : Shape) (set : ℕ) where
   pub symmetry_leads : 0 < board.symmetries → is_canonicalizing board set (symmetry_of board set) ≡ true
   symmetry_leads some = canonicalizing (symmetry_of board set) (symmetry_first some)
 
--- ---- all symmetries that lead to the least image
+-- ---- all canonicalizing symmetries
 
--- x has the symmetries below `count` that lead to the same image as s, and no other numbers
+-- x has the symmetries below `count` that give the same image as s, and no other numbers
 pub record AreSame (board : Shape) (count set s x : ℕ) : Type 0 where
   pub each : (t : ℕ) → has x t ≡ true → (t < count) × (image_of (board.image t) set ≡ image_of (board.image s) set)
   pub all : (t : ℕ) → t < count → image_of (board.image t) set ≡ image_of (board.image s) set → has x t ≡ true
@@ -166,7 +166,7 @@ module _ (board : Shape) (set : ℕ) where
     ];
   }
 
-  -- a symmetry that leads to the least image leads to the same image as the first that does
+  -- a symmetry that gives the least image gives the same image as the first that does
   leads_same : (s t : ℕ) → IsFirst board board.symmetries set s → t < board.symmetries → is_canonicalizing board set t ≡ true → at board set t ≡ at board set s
   unfolding is_canonicalizing
   leads_same s t first low h =
@@ -205,12 +205,12 @@ module _ (board : Shape) (set : ℕ) where
         ]
       ]
 
-  -- so it leads to the representative
+  -- so it gives the representative
   pub canonical_least : (t : ℕ) → t < board.symmetries → is_canonicalizing board set t ≡ true → image_of (board.image t) set ≡ representative_of board set
   unfolding representative_of
   canonical_least t low h = leads_same (symmetry_of board set) t (symmetry_first board set (omega arith)) low h
 
--- the least image so far, and all symmetries so far that lead there
+-- the least image so far, and all symmetries so far that give it
 pub record IsLeastSoFar (board : Shape) (count set least x : ℕ) : Type 0 where
   pub symmetry : ℕ
   pub first : IsFirst board count set symmetry
@@ -267,7 +267,8 @@ module _ (board : Shape) (few : board.points ≤ 24) (y : HasSymmetries board) w
         let l = (symmetry_first board set y.some).least u.0 u.1 in
         omega (arith, u.2, l)
 
-  -- a set with no lesser image is led to itself by symmetry 0
+  -- the canonicalizing symmetry of a set with no lesser image is symmetry 0, which leaves it as it
+  -- is
   pub own_symmetry : (set : ℕ) → set < 2 ^ board.points → ((s : ℕ) → s < board.symmetries → set ≤ image_of (board.image s) set) → symmetry_of board set ≡ 0
   own_symmetry set small above =
       first_is board set 0 (record {

@@ -1,4 +1,4 @@
--- The entry of a position after a quiet move, from what is kept of the position before it.
+-- The entry of a position's successor by a quiet move.
 use Rattle.std.proofs.Common.{◌≡◌, ℕ, ◌+◌, ◌<◌, ◌≤◌, true, not, ◌||◌, sym, ◌∙◌, ap, ap₂, arith}
 use Rattle.morris_board.specs.Boards.{Shape}
 use Rattle.morris_board.specs.Sets.{has, count_of, with_point, without_point}
@@ -34,7 +34,7 @@ module _ (board : Shape) (n : ℕ) (few : n ≤ 24) (points : board.points ≡ n
   on_board : (p : ℕ) → p < n → p < board.points
   on_board p low = omega arith
 
-  -- the entry of a position from the images of its stones under the symmetry that leads it
+  -- the entry of a position from the images of its stones under its canonicalizing symmetry
   pub canonical_entry : (c : Counts) (s : Sides)
       → class_start_of board n c s.own (count_of s.other) + carried_rank board s (symmetry_of board s.own) ≡ class_index_of board n c s
   unfolding canonical_form representative_of

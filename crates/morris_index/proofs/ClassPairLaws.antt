@@ -1,5 +1,5 @@
 -- Laws of the numbering by classes: the entry of a position is below the number of entries, the
--- position of an entry has it, and positions with the same entry are led to the same position.
+-- position of an entry has it, and positions with the same entry have the same canonical form.
 use Rattle.std.proofs.Common.{◌≡◌, ℕ, ◌+◌, ◌-◌, ◌*◌, ◌/◌, ◌%◌, ◌^◌, ◌<◌, ◌≤◌, true, false, map, refl, sym, ◌∙◌, ap, inl, inr, subst, arith, ◌≢◌}
 use Rattle.std.proofs.lemmas.Bool.{cases_eq, eq-eqb, ne_eqb}
 use Rattle.std.proofs.Math.Nat.{mul-le-mul_left, div-lt_iff_lt-mul, mod-lt}
@@ -31,7 +31,7 @@ module _ (board : Shape) (n : ℕ) (few : n ≤ 24) (points : board.points ≡ n
     own_within : s.own < 2 ^ board.points
     own_within = h.stones.own_within
 
-    -- the position that it is led to is a position with as many stones, on the representative
+    -- the canonical form is a position with as many stones, on the representative
     pub canonical_position : IsPosition board (canonical_form board s)
     unfolding canonical_form
     canonical_position = IsPosition-image board low _ _ (one_to_one board _ _ (y.symmetry (symmetry_of board s.own) (symmetry_within board low y s.own own_within))) s h
@@ -65,7 +65,7 @@ module _ (board : Shape) (n : ℕ) (few : n ≤ 24) (points : board.points ≡ n
     unfolding class_half_index class_half_size
     class_index-lt class = parts_lt (class_of board s.own) canonical_rank (class_count board (count_of s.own)) (choose (n - count_of s.own) (count_of s.other)) class canonical_rank-lt
 
-  -- two positions with as many stones and the same number are led to the same position
+  -- two positions with as many stones and the same number have the same canonical form
   module _ (s t : Sides) (h : IsPosition board s) (k : IsPosition board t) (own : count_of s.own ≡ count_of t.own) (other : count_of s.other ≡ count_of t.other)
       (same : class_half_index board n s ≡ class_half_index board n t) where
     free_same : choose (n - count_of t.own) (count_of t.other) ≡ choose (n - count_of s.own) (count_of s.other)
@@ -187,7 +187,7 @@ module _ (board : Shape) (n : ℕ) (few : n ≤ 24) (points : board.points ≡ n
     unfolding class_index_of
     index-second s d = rw (ne_eqb (count_of s.own) c.greater d) refl
 
-    -- an entry by its parts: where those with its class begin, and the rank of the opponent's stones
+    -- an entry by its parts: where those of its class begin, and the rank of the opponent's stones
     pub entry-parts : (s : Sides) → class_index_of board n c s
         ≡ class_start_of board n c s.own (count_of s.other) + rank_of (map (number_outside (canonical_form board s).own) (members (canonical_form board s).other))
     unfolding class_half_index
@@ -221,7 +221,7 @@ module _ (board : Shape) (n : ℕ) (few : n ≤ 24) (points : board.points ≡ n
           omega (arith, index-second s own, half_below c.lesser c.greater s h b.1 b.2, size-two b.0)
     ]
 
-    -- positions with the same entry are led to the same position
+    -- positions with the same entry have the same canonical form
     pub canonical_alone : (s t : Sides) → IsPosition board s → IsPosition board t → is_of c s ≡ true → is_of c t ≡ true
         → class_index_of board n c s ≡ class_index_of board n c t → canonical_form board s ≡ canonical_form board t
     canonical_alone s t h k s_of t_of same = elim (halves_of c s s_of) [

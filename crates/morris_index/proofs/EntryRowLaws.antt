@@ -1,4 +1,4 @@
--- Rows of entries: what is kept of one are the numbers of the opponent's stones in its entries.
+-- Rows of entries: the numbers of the opponent's stones in each entry of a row.
 use Rattle.std.proofs.Common.{◌≡◌, ◌≢◌, ℕ, ◌+◌, ◌-◌, ◌*◌, ◌/◌, ◌%◌, ◌^◌, ◌<◌, ◌≤◌, nat_eq, true, false, List, map, length, slice_index, refl, sym, ◌∙◌, ap, subst, inl, inr, arith}
 use Rattle.std.proofs.lemmas.Bool.{cases_Bool, both_ways, eq-eqb, ne_eqb}
 use Rattle.std.proofs.lemmas.Bool.Decides.{nat_tests}
@@ -79,7 +79,7 @@ module _ (board : Shape) (n : ℕ) (c : Counts) (pair : IsPair n c) (index own :
         );
       }
 
--- ---- what a row tells of its entries
+-- ---- what is known of the entries of a row
 
 -- the numbers of stones are those of a position
 module _ (n : ℕ) (c : Counts) (own other : ℕ) (pair : IsPair n c) (of : are_of c own other ≡ true) where
@@ -170,7 +170,7 @@ module _ (board : Shape) (n : ℕ) (few : n ≤ 24) (points : board.points ≡ n
         entry = row_entry;
       }
 
-    -- all positions with the entry are led to the one of the row
+    -- the canonical form of all positions with the entry is the one of the row
     row_canonical : (t s : Sides) → IsInRow board n row place t → IsPosition board s → is_of row.pair s ≡ true
         → class_index_of board n row.pair s ≡ row.first + place → t ≡ canonical_form board s
     row_canonical t s at lawful of entry =

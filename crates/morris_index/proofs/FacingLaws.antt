@@ -1,5 +1,5 @@
--- The positions that face a set: what their entries are, how the results of their moves are led,
--- and that each position with an entry of its own is one of them.
+-- Positions grouped by the opponent's set: the entries of the members, the canonicalizing symmetry
+-- of the results of their moves, and that each position with an entry of its own is a member.
 use Rattle.std.proofs.Common.{◌≡◌, ℕ, ◌+◌, ◌^◌, ◌<◌, ◌≤◌, true, eqb, List, ◌++◌, map, filter, refl, sym, ◌∙◌, ap, ap₂, subst, inl, inr, arith}
 use Rattle.std.specs.List.{range_with_len, All, Contains}
 use Rattle.std.proofs.lemmas.Bool.{cases_lt, eq-eqb, eqb-true, and_parts, and_from}
@@ -78,7 +78,7 @@ module _ (board : Shape) (n : ℕ) (few : n ≤ 24) (points : board.points ≡ n
     turned_placed : IsPlaced n (swap_sides p)
     turned_placed = placed board n (swap_sides p) points turned_position
 
-    -- ---- carried by a symmetry
+    -- ---- the member that a symmetry gives
 
     module _ (own : representative_of board p.own ≡ p.own) (s : ℕ) (s_in : s < board.symmetries) (k : gives_unmove board p p.other s ≡ true) where
       abbrev pub member : Sides
@@ -111,7 +111,7 @@ module _ (board : Shape) (n : ℕ) (few : n ≤ 24) (points : board.points ≡ n
         inside = subst (λ k. k < class_size_of board n c) (sym e) (index-lt board n few points y c member faced_position faced_of);
       }
 
-      -- ---- what is kept of the turned position
+      -- ---- the position of which it is the image
 
       pub faced_from : (place first : ℕ) → place ≡ p.own → first ≡ class_start_of board n c p.own (count_of p.other) → first ≤ 2 ^ 54
           → IsGroupMemberFrom board n c (swap_sides p) s place first
@@ -125,7 +125,7 @@ module _ (board : Shape) (n : ℕ) (few : n ≤ 24) (points : board.points ≡ n
         few = small;
       }
 
-  -- ---- how the results are led of a position of which an image has an entry of its own
+  -- ---- the results of the moves of a position of which an image is a member
 
   pub canonical_itself_on : (p : Sides) (symmetry place first : ℕ) → IsGroupMemberFrom board n c p symmetry place first → IsCanonicalOn board n (in_pair c p) 0 p first
   canonical_itself_on p symmetry place first k = record {
@@ -138,7 +138,7 @@ module _ (board : Shape) (n : ℕ) (few : n ≤ 24) (points : board.points ≡ n
     few = k.few;
   }
 
-  -- ---- each position with an entry of its own faces a set
+  -- ---- each position with an entry of its own is a member
 
   pub record IsCovered (x : Sides) : Type 0 where
     pub facing_it : Sides
@@ -216,7 +216,7 @@ module _ (board : Shape) (n : ℕ) (few : n ≤ 24) (points : board.points ≡ n
           (table-has (λ s. in_pair c (image_sides (board.image s) (swap_sides p))) (gives_unmove board p p.other) 0 board.symmetries back (omega arith) (omega (arith, back_in)) carried_there);
     }
 
-  -- ---- all that face the positions of some entries
+  -- ---- all members that the positions of some entries give
 
   facing_pairs : (p : Sides) → All (λ (q : InPair). q.pair ≡ c) (by_opponent board c p)
   unfolding by_opponent

@@ -1,5 +1,5 @@
--- The positions that have an entry: each is led to the position of the entry by one of the
--- symmetries, and those that are led there have this entry.
+-- The orbit of an entry: the canonical form of each position that has it is the position of the
+-- entry, and all positions with this canonical form have it.
 use Rattle.std.proofs.Common.{◌≡◌, ◌≢◌, ℕ, zero, suc, ◌+◌, ◌-◌, ◌<◌, ◌≤◌, Bool, true, false, nat_eq, List, [], ◌∷◌, length, map, filter, ◌↔◌, refl, sym, ◌∙◌, ap, ap₂, subst, inl, inr, arith}
 use Rattle.std.proofs.lemmas.Bool.{cases_Bool, cases_eq, eqb-true, eq-eqb, ne_eqb}
 use Rattle.std.proofs.lemmas.List.Elements.{All-contains_itself, All-weaker, Contains-append_left, Contains-append_right, Contains-append_cases, Contains-push, Contains-push_cases}
@@ -133,14 +133,14 @@ module _ (board : Shape) (few : board.points ≤ 24) (y : HasSymmetries board) w
     taken_other : count_of (preimage board p s).other ≡ count_of p.other
     taken_other = count_of-image board.points few _ _ (back s low) p.other h.stones.other_within
 
-    -- where s is its symmetry, it is led to p
+    -- where s is its canonicalizing symmetry, its canonical form is p
     taken_canonical : is_canonicalized_by board p s ≡ true → canonical_form board (preimage board p s) ≡ p
     unfolding canonical_form
     taken_canonical is =
         ap (λ t. image_sides (board.image t) (preimage board p s)) (eqb-true _ _ is)
         ∙ image_sides-undone board few _ _ (back s low) p h.stones
 
-  -- and each position is taken from the one that it is led to
+  -- and each position is the preimage of its canonical form
   module _ (x : Sides) (h : IsPosition board x) where
     canonicalizing_low : symmetry_of board x.own < board.symmetries
     canonicalizing_low = symmetry_within board few y x.own h.stones.own_within
@@ -158,7 +158,7 @@ module _ (board : Shape) (n : ℕ) (few : n ≤ 24) (points : board.points ≡ n
   low : board.points ≤ 24
   low = omega arith
 
-  -- positions with as many stones that are led to the same position have the same entry
+  -- positions with as many stones and the same canonical form have the same entry
   module _ (s t : Sides) (h : IsPosition board s) (k : IsPosition board t) (own : count_of s.own ≡ count_of t.own) (other : count_of s.other ≡ count_of t.other)
       (same : canonical_form board s ≡ canonical_form board t) where
     same_class : class_of board s.own ≡ class_of board t.own
@@ -217,7 +217,7 @@ pub falls-few : (board : Shape) (p : Sides) → length (orbit_from board p 0) �
 unfolding orbit_from
 falls-few board p = omega (arith, table-few (preimage board p) (is_canonicalized_by board p) 0 (board.symmetries - 0))
 
--- how many are led to a position depends on the stones of the player to move alone
+-- how many positions have a canonical form depends on the stones of the player to move alone
 pub falls_same : (board : Shape) (p q : Sides) → q.own ≡ p.own → length (orbit_from board q 0) ≡ length (orbit_from board p 0)
 unfolding orbit_from
 falls_same board p q own =

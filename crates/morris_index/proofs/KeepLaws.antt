@@ -1,4 +1,4 @@
--- What is kept of the sets of a number of points, set by set in the order of their ranks.
+-- The table of the classes of sets, filled set by set in the order of their ranks.
 use Rattle.std.proofs.Common.{◌≡◌, ℕ, suc, ◌+◌, ◌-◌, ◌^◌, ◌<◌, ◌≤◌, true, List, [], ◌∷◌, ◌++◌, length, get_or, refl, sym, ap, ap₂, ◌∙◌, inl, inr, subst, arith, length-append}
 use Rattle.std.proofs.lemmas.Bool.{cases_eq}
 use Rattle.std.proofs.lemmas.List.{get_or_append_left, get_or_push, get_or-map, length-map}
@@ -235,7 +235,7 @@ module _ (board : Shape) (n count : ℕ) (low : n ≤ 24) (points : board.points
           let parts = test_parts board count found is_listed.0 in
           record { own = parts.0; counted = parts.1; within = is_listed.1; class_is = rw (parts.0, parts.1) is_listed.2 }
 
-  -- ---- what is kept of one set
+  -- ---- what the table has of one set
 
   module _ (set_classes : List SetClass) (representatives : List ℕ) (all : IsClasses board n count (classes_in set_classes) (canonicalizing_in set_classes) representatives)
       (set rank : ℕ) (within : set < 2 ^ n) (counted : count_of set ≡ count) (is : rank ≡ rank_at set) where
@@ -265,6 +265,6 @@ module _ (board : Shape) (n count : ℕ) (low : n ≤ 24) (points : board.points
           ∙ ap (λ r. get_or (canonicalizing_in set_classes) r 0) is))
           (leads_at (classes_in set_classes) (canonicalizing_in set_classes) representatives all set within counted)
 
--- the class that is kept at a rank
+-- the class in the table at a rank
 pub class_in : (set_classes : List SetClass) (rank : ℕ) (set_class : SetClass) → rank < length set_classes → set_class ≡ get_or set_classes rank set_class → set_class.class ≡ get_or (classes_in set_classes) rank 0
 class_in set_classes rank set_class low here = ap (λ (l : SetClass). l.class) here ∙ sym (get_or-map (λ (l : SetClass). l.class) set_classes rank set_class 0 low)

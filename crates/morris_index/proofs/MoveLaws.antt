@@ -123,7 +123,7 @@ module _ (n : ℕ) (low : n ≤ 24) (c : Counts) (s : Sides) (placed : IsPlaced 
   pub before_index : start_of n c (count_of s.other) + before_sum ≡ index_of n c (unmove_sides s u v)
   before_index = sym (index-parts n c (unmove_sides s u v) ∙ ap₂ (λ k h. start_of n c k + h) before_count (sym before_half))
 
--- ---- the position before it, by what its two points come to
+-- ---- the predecessor, by what its two points come to
 
 -- the index of the position with the other player to move
 module _ (n : ℕ) (low : n ≤ 24) (s : Sides) (placed : IsPlaced n s) (own_few : count_of s.own ≤ 9) (other_few : count_of s.other ≤ 9) where

@@ -1,4 +1,4 @@
--- The points of a set below a point, and the rest of its points.
+-- The points of a set below a point, and its other points.
 use Rattle.std.proofs.Common.{◌≡◌, ℕ, zero, suc, ◌≤◌, Bool, false, not, ◌&&◌, ltb, List, [], ◌∷◌, ◌++◌, refl, sym, ◌∙◌, ap, ap₂, inl, inr, arith, append_assoc}
 use Rattle.std.proofs.lemmas.Bool.{cases_Bool, cases_lt, lt-ltb, le-ltb, and_right}
 use Rattle.std.proofs.lemmas.List.{append-nil}

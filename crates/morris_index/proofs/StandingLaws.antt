@@ -1,4 +1,4 @@
--- The entries of positions with given stones of the player to move, from what is kept of these.
+-- The entries of positions with given stones of the player to move.
 use Rattle.std.proofs.Common.{◌≡◌, ℕ, ◌+◌, ◌-◌, ◌*◌, ◌^◌, ◌<◌, ◌≤◌, true, map, refl, sym, ◌∙◌, ap, ap₂, arith}
 use Rattle.std.proofs.Math.Nat.{mul-le-mul_left}
 use Rattle.std.proofs.lemmas.Bool.Decides.{nat_tests}

@@ -1,5 +1,5 @@
--- The steps that come down to a quiet move: each symmetry that carries the move gives one, and each
--- of them is given by one.
+-- The un-moves that come down to one of a position: each symmetry that gives an un-move gives one
+-- of them, and each of them is given by one.
 use Rattle.std.proofs.Common.{◌≡◌, ℕ, ◌^◌, ◌<◌, ◌≤◌, Bool, true, false, not, ◌&&◌, ◌||◌, eqb, leb, List, ◌++◌, map, filter, ◌↔◌, refl, sym, ◌∙◌, ap, ap₂, subst, inl, inr, arith}
 use Rattle.std.specs.List.{range_with_len, Contains}
 use Rattle.std.proofs.lemmas.Bool.{cases_Bool, eq-eqb, eqb-true, ne_eqb, le-leb, and_parts, and_from, or_right, both_ways}
@@ -72,7 +72,7 @@ module _ (board : Shape) (n : ℕ) (few : n ≤ 24) (points : board.points ≡ n
     forth_back : (q : Sides) → q.own < 2 ^ board.points → q.other < 2 ^ board.points → image_sides (board.image (inverse_of s)) (image_sides f q) ≡ q
     forth_back q own other = ap₂ sides (image_of-undone board.points low f _ one q.own own) (image_of-undone board.points low f _ one q.other other)
 
-    -- a set that is taken to a representative is led there
+    -- a symmetry that takes a set to a representative is canonicalizing for it
     pub leads_from : (set : ℕ) → set < 2 ^ board.points → representative_of board (image_of f set) ≡ image_of f set → is_canonicalizing board set s ≡ true
     unfolding is_canonicalizing representative_of
     leads_from set small own =
@@ -85,7 +85,7 @@ module _ (board : Shape) (n : ℕ) (few : n ≤ 24) (points : board.points ≡ n
         let seen : image_of (board.image t) set ≡ image_of (board.image u.0) (image_of f set) = ap (image_of (board.image t)) (sym undone) ∙ u.2 in
         le-leb _ _ (omega (arith, least, own, seen)))
 
-  -- ---- the steps that come down to a move
+  -- ---- the un-moves that come down to one of a position
 
   module _ (c : Counts) (pair : IsPair n c) (p : Sides) (h : IsPosition board p) (of : is_of c p ≡ true) (u v : ℕ) (u_in : u < n)
       (vacant : not (has p.own u || has p.other u) ≡ true) (here : has p.other v ≡ true) where
@@ -156,7 +156,7 @@ module _ (board : Shape) (n : ℕ) (few : n ≤ 24) (points : board.points ≡ n
     moves_there : move_sides before u v ≡ p
     moves_there = ap (sides p.own) (there_back p.other v u here free_other)
 
-    -- the step that symmetry s takes the move to
+    -- the un-move that symmetry s gives
     abbrev unmoved : ℕ → Unmove
     unmoved s = unmove (image_sides (board.image s) before) (board.image s u) (board.image s v)
 

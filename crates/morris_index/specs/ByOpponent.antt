@@ -1,5 +1,6 @@
--- The positions that face a set of the opponent's stones: those whose quiet moves lead to positions
--- with one set of the player to move, so that the entries of their results stand together.
+-- Positions grouped by the opponent's set. The quiet moves of all members of a group lead to
+-- positions whose canonical forms have one set of the player to move, so that the entries of their
+-- results stand together.
 use Rattle.std.specs.Prelude.{◌≡◌, ℕ, ◌<◌, ◌≤◌, ◌^◌, true, List, map, filter}
 use Rattle.std.specs.List.{range_with_len, All, Contains}
 use Rattle.morris_board.specs.Boards.{Shape}
@@ -17,10 +18,10 @@ use Rattle.morris_index.specs.Pairs.{Counts, IsPair, is_of}
 abbrev pub swap_sides : Sides → Sides
 swap_sides s = sides s.other s.own
 
--- The positions to which p, with the other player to move, is carried by the symmetries that lead
--- this player's stones to the representative and whose way back is the symmetry that leads the
--- images of the stones of p's player. By that symmetry the results of their quiet moves are led, to
--- positions in which p's player has the stones of p.
+-- The members that p gives to the group of its player's set: the images of p, with the other player
+-- to move, under the symmetries that are canonicalizing for this player's stones and in the
+-- transversal of the set. The inverse of such a symmetry is the canonicalizing one of the results
+-- of the member's quiet moves, and takes them to positions in which the player to move has the set.
 unfoldable pub by_opponent : Shape → Counts → Sides → List InPair
 by_opponent board c p = map (λ s. in_pair c (image_sides (board.image s) (swap_sides p))) (filter (gives_unmove board p p.other) (range_with_len 0 board.symmetries))
 
@@ -32,16 +33,15 @@ pub record IsGroupMember (board : Shape) (n : ℕ) (q : InPair) (entry : ℕ) : 
   pub at : class_index_of board n q.pair q.position ≡ entry
   pub inside : entry < class_size_of board n q.pair
 
--- In a position the opponent stands on a representative, to which the way back from the image of
--- the position under a symmetry leads the opponent's stones.
+-- In p the opponent stands on a representative, and the symmetry is in its transversal.
 pub record IsInTransversal (board : Shape) (p : Sides) (symmetry : ℕ) : Type 0 where
   pub within : symmetry < board.symmetries
   pub least : representative_of board p.other ≡ p.other
   pub back : symmetry_of board (image_of (board.image symmetry) p.other) ≡ inverse_of symmetry
 
--- What is kept of a position of the pair, on n points, whose image under a symmetry has an entry
--- for its own: where the results of its quiet moves stand, in which the player to move has these
--- stones.
+-- A position p of the pair, on n points, whose image under the symmetry has an entry for its own:
+-- its opponent stands on the group's set, `place`, and `first` is the first entry in which the
+-- player to move has this set.
 pub record IsGroupMemberFrom (board : Shape) (n : ℕ) (c : Counts) (p : Sides) (symmetry place first : ℕ) : Type 0 where
   pub counts : is_of c p ≡ true
   pub lawful : IsPosition board p
@@ -51,8 +51,8 @@ pub record IsGroupMemberFrom (board : Shape) (n : ℕ) (c : Counts) (p : Sides) 
   pub start : first ≡ class_start_of board n c p.other (count_of p.own)
   pub few : first ≤ 2 ^ 54
 
--- What is kept of a position for those that face its set: the symmetries whose inverse leads the
--- image of the set, and the first entry in which the player to move has this set.
+-- The group of the stones of the player to move in a position: their transversal, and the first
+-- entry in which the player to move has these stones.
 pub record IsOpponentGroup (board : Shape) (n : ℕ) (q : InPair) (transversal first : ℕ) : Type 0 where
   pub counts : is_of q.pair q.position ≡ true
   pub lawful : IsPosition board q.position
@@ -61,8 +61,8 @@ pub record IsOpponentGroup (board : Shape) (n : ℕ) (q : InPair) (transversal f
   pub start : first ≡ class_start_of board n q.pair q.position.own (count_of q.position.other)
   pub few : first ≤ 2 ^ 54
 
--- Some positions of a pair, on n points: among them are all that face a position with an entry of
--- its own from `first` on, before `end`.
+-- Some positions of a pair, on n points: among them are all members that the positions with entries
+-- of their own give, for the entries from `first` up to, not including, `end`.
 pub record AreByOpponent (board : Shape) (n : ℕ) (c : Counts) (first end : ℕ) (by_opponents : List InPair) : Type 0 where
   pub pairs : All (λ (q : InPair). q.pair ≡ c) by_opponents
   pub each : (p : Sides) → IsPosition board p → is_of c p ≡ true → representative_of board p.own ≡ p.own

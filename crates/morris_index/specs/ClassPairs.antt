@@ -1,5 +1,5 @@
--- The numbering of the positions of a pair by classes. A position is led by the symmetry of the set
--- of the player to move, so that this set becomes the representative of its class.
+-- The numbering of the positions of a pair by classes. In the canonical form of a position the set
+-- of the player to move is the representative of its class.
 use Rattle.std.specs.Prelude.{ℕ, ◌+◌, ◌-◌, ◌*◌, nat_eq, map, if◌then◌else◌}
 use Rattle.morris_board.specs.Boards.{Shape}
 use Rattle.morris_board.specs.Sets.{members, count_of}
@@ -10,7 +10,8 @@ use Rattle.morris_index.specs.Numbering.{rank_of, number_outside}
 use Rattle.morris_index.specs.Pairs.{Counts}
 use Rattle.morris_index.specs.Classes.{symmetry_of, class_of, class_count}
 
--- the image of a position under the symmetry of the set of the player to move
+-- the canonical form of a position: its image under the canonicalizing symmetry of the set of the
+-- player to move
 unfoldable pub canonical_form : Shape → Sides → Sides
 canonical_form board s = image_sides (board.image (symmetry_of board s.own)) s
 

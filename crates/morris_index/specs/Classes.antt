@@ -9,20 +9,20 @@ use Rattle.morris_index.specs.Binomials.{choose}
 use Rattle.morris_index.specs.Numbering.{count_below, IsRanked}
 use Rattle.morris_index.specs.declared.classes.SetClass.{SetClass}
 
--- whether symmetry s leads a set to its image with the least mask
+-- whether symmetry s takes a set to its image with the least mask
 unfoldable pub is_canonicalizing : Shape → ℕ → ℕ → Bool
 is_canonicalizing board set s =
     list_all (λ t. nat_le (image_of (board.image s) set) (image_of (board.image t) set)) (range_with_len 0 board.symmetries)
 
--- x has the symmetries that lead a set to its image with the least mask, and no other numbers
+-- x has the canonicalizing symmetries of a set, those that take it there, and no other numbers
 abbrev pub AreCanonicalizing : Shape → ℕ → ℕ → Type 0
 AreCanonicalizing board set x = (s : ℕ) → has x s ≡ (nat_lt s board.symmetries && is_canonicalizing board set s)
 
--- the least symmetry that leads a set to its image with the least mask
+-- the canonicalizing symmetry of a set: the least of them
 unfoldable pub symmetry_of : Shape → ℕ → ℕ
 symmetry_of board set = position_or_len (is_canonicalizing board set) (range_with_len 0 board.symmetries)
 
--- that image is the representative of the set's class
+-- the representative of the set's class, its canonical form: the image with the least mask
 unfoldable pub representative_of : Shape → ℕ → ℕ
 representative_of board set = image_of (board.image (symmetry_of board set)) set
 
@@ -43,16 +43,16 @@ class_of board set = classes_below board (count_of set) (representative_of board
 unfoldable pub class_count : Shape → ℕ → ℕ
 class_count board count = classes_below board count (2 ^ board.points)
 
--- the two parts of what is kept of sets, each as a list
+-- the classes and the canonicalizing symmetries of sets, each as a list
 abbrev pub classes_in : List SetClass → List ℕ
 classes_in set_classes = map (λ (set_class : SetClass). set_class.class) set_classes
 
 abbrev pub canonicalizing_in : List SetClass → List ℕ
 canonicalizing_in set_classes = map (λ (set_class : SetClass). set_class.canonicalizing) set_classes
 
--- What is kept of the sets of `count` points, on n points, whose rank is below `to`: at the rank of
--- each, its class and all symmetries that lead it; and the representatives among them, in the order
--- of their classes.
+-- The table of the sets of `count` points, on n points, whose rank is below `to`: at the rank of
+-- each, its class and all its canonicalizing symmetries; and the representatives among them, in the
+-- order of their classes.
 pub record IsClassTable (board : Shape) (n count to : ℕ) (classes canonicalizing representatives : List ℕ) : Type 0 where
   pub classes_len : length classes ≡ to
   pub canonicalizing_len : length canonicalizing ≡ to

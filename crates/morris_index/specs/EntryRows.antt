@@ -30,7 +30,7 @@ pub record IsInRow (board : Shape) (n : ℕ) (row : InRow) (place : ℕ) (s : Si
   pub own : s.own ≡ row.own
   pub entry : class_index_of board n row.pair s ≡ row.first + place
 
--- s is the position of the entry at a place, and all positions that have the entry are led to it
+-- s is the position of the entry at a place, and the canonical form of all positions that have it
 pub record StandsIn (board : Shape) (n : ℕ) (row : InRow) (place : ℕ) (s : Sides) : Type 0 where
   pub inside : IsInRow board n row place s
   pub canonical_form : (t : Sides) → IsPosition board t → is_of row.pair t ≡ true → class_index_of board n row.pair t ≡ row.first + place → s ≡ canonical_form board t
@@ -45,9 +45,9 @@ abbrev pub row_end : Shape → ℕ → InRow → ℕ
 row_end board n row =
     class_start_of board n row.pair row.own (opponent_count row.pair row.own) + choose (n - count_of row.own) (opponent_count row.pair row.own)
 
--- What is kept of the entries from `index` on in which the player to move has the stones `own`,
--- among those with as many stones and `other` of the opponent: the sets of the opponent's stones,
--- as the numbers of their points among those that are left free.
+-- The entries from `index` on in which the player to move has the stones `own`, among those with as
+-- many stones and `other` of the opponent: the sets of the opponent's stones, as the numbers of
+-- their points among those that are left free.
 pub record IsHalfRow (board : Shape) (n own other index : ℕ) (numbers : List ℕ) : Type 0 where
   pub least : representative_of board own ≡ own
   pub within : own < 2 ^ n

@@ -17,8 +17,8 @@ pub record HalfOf : Type 0 where
 abbrev pub half_of : Counts → ℕ → ℕ → HalfOf
 half_of c own other = record { pair = c; own = own; other = other }
 
--- What is kept of them, on n points: the number of points of the sets whose classes are kept and of
--- those that the rows rank, the first of the entries, and for a class how many sets of the
+-- The tables for them, on n points: the number of points of the sets that have their classes there
+-- and of those that the rows rank, the first of the entries, and for a class how many sets of the
 -- opponent's stones there are outside the representative.
 pub record IsHalfTable (board : Shape) (n : ℕ) (h : HalfOf) (sets ranked start each : ℕ) : Type 0 where
   pub pair : IsPair n h.pair
@@ -30,10 +30,10 @@ pub record IsHalfTable (board : Shape) (n : ℕ) (h : HalfOf) (sets ranked start
   pub choices : each ≡ choose (n - h.own) h.other
   pub choices_few : each < 2 ^ 21
 
--- What is kept, on n points, of the sets of `own` points of a pair whose other number is `other`:
--- the number of points of the sets whose classes are kept; the symmetries that return from the
--- images of the representatives; and of the list of the sets of `other` points that one of these
--- leaves room for, of how many points they are taken, how many each has, and how many they are.
+-- The tables, on n points, for the sets of `own` points of a pair whose other number is `other`:
+-- the number of points of the sets that have their classes there; the transversals of the
+-- representatives; and of the list of the sets of `other` points that one of these leaves room for,
+-- of how many points they are taken, how many each has, and how many they are.
 pub record AreCountTables (board : Shape) (n own other sets : ℕ) (transversal : List ℕ) (points count each : ℕ) : Type 0 where
   pub classes : sets ≡ own
   pub returns : AreTransversals board n own (class_count board own) transversal

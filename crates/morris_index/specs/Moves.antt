@@ -18,8 +18,8 @@ pub record InPair : Type 0 where
 abbrev pub in_pair : Counts → Sides → InPair
 in_pair c s = record { pair = c; position = s }
 
--- The position before a quiet move from u to v led to s: its stone stands on u again, and the
--- player who made it is to move.
+-- The predecessor of s by the un-move from v back to u: the stone stands on u again, and the player
+-- who made the move is to move.
 abbrev pub unmove_sides : Sides → ℕ → ℕ → Sides
 unmove_sides s u v = sides (with_point (without_point s.other v) u) s.own
 
@@ -34,7 +34,7 @@ start_of n c own = if nat_eq own c.greater then 0 else half_size n c.greater c.l
 abbrev pub end_taken_back : Bool → ℕ → Sides → ℕ → ℕ
 end_taken_back lower n s p = moved_end lower 0 s.other p * choose (n - count_of s.other) (count_of s.own) + renumbered_end lower s.other s.own p
 
--- what is kept of a position, on n points, for the indices of those before it
+-- a position, on n points, with what the indices of its predecessors are found by
 pub record IsTakenBack (board : Shape) (n : ℕ) (q : InPair) (mover waiting : KeptSums) (index sets : ℕ) : Type 0 where
   pub counts : is_of q.pair q.position ≡ true
   pub lawful : IsPosition board q.position
@@ -44,11 +44,12 @@ pub record IsTakenBack (board : Shape) (n : ℕ) (q : InPair) (mover waiting : K
   pub swap_sides : index ≡ index_of n q.pair (sides q.position.other q.position.own)
   pub choices : sets ≡ choose (n - count_of q.position.other) (count_of q.position.own)
 
--- The position after a quiet move from u to v: the stone stands on v, and the opponent is to move.
+-- The successor of s by a quiet move from u to v: the stone stands on v, and the opponent is to
+-- move.
 abbrev pub move_sides : Sides → ℕ → ℕ → Sides
 move_sides s u v = sides s.other (with_point (without_point s.own u) v)
 
--- what is kept of a position, on n points, for the indices of those after it
+-- a position, on n points, with what the indices of its successors are found by
 pub record IsMovedOn (board : Shape) (n : ℕ) (q : InPair) (mover : KeptSums) (first : ℕ) : Type 0 where
   pub counts : is_of q.pair q.position ≡ true
   pub lawful : IsPosition board q.position

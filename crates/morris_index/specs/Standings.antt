@@ -1,5 +1,5 @@
--- What is kept of the stones of the player to move in positions of a pair, so that their entries
--- are found from the opponent's stones alone.
+-- The entries of positions of a pair with given stones of the player to move, found from the
+-- opponent's stones alone.
 use Rattle.std.specs.Prelude.{◌≡◌, ℕ, suc, ◌+◌, ◌-◌, ◌*◌, ◌^◌, ◌≤◌, Bool, true, ◌&&◌, ◌||◌, nat_eq}
 use Rattle.morris_board.specs.Boards.{Shape}
 use Rattle.morris_board.specs.Sets.{members, count_of}
@@ -16,7 +16,7 @@ use Rattle.morris_index.specs.declared.standing.Standing.{Standing}
 abbrev pub are_of : Counts → ℕ → ℕ → Bool
 are_of c own other = (nat_eq own c.greater && nat_eq other c.lesser) || (nat_eq own c.lesser && nat_eq other c.greater)
 
--- What is kept, on n points, where the opponent has `other` stones and each position has an entry:
+-- Where they stand, on n points, if the opponent has `other` stones and each position has an entry:
 -- the first entry with these own stones, and these stones, outside which the opponent's are ranked.
 pub record IsStanding (n : ℕ) (c : Counts) (other : ℕ) (standing : Standing) : Type 0 where
   pub pair : IsPair n c
@@ -25,9 +25,9 @@ pub record IsStanding (n : ℕ) (c : Counts) (other : ℕ) (standing : Standing)
   pub start : standing.start
       ≡ start_of n c (count_of standing.own) + rank_of (members standing.own) * choose (n - count_of standing.own) other
 
--- What is kept where the entries are numbered by classes: the symmetry that leads the own stones to
--- the representative, this representative, outside which the images of the opponent's stones are
--- ranked, how many of the points below 8 and below 16 it leaves free, and the first entry with it.
+-- Where they stand if the entries are numbered by classes: the canonicalizing symmetry of the own
+-- stones, their representative, outside which the images of the opponent's stones are ranked, how
+-- many of the points below 8 and below 16 it leaves free, and the first entry with it.
 pub record IsCanonicalStanding (board : Shape) (n : ℕ) (c : Counts) (other : ℕ) (standing : Standing) : Type 0 where
   pub counts : are_of c (count_of standing.own) other ≡ true
   pub symmetry : standing.symmetry ≡ symmetry_of board standing.own

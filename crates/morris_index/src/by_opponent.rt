@@ -1,4 +1,4 @@
-//! The positions that face a set of the opponent's stones, where they are numbered by classes.
+//! Positions grouped by the opponent's set, where they are numbered by classes.
 ghost use Rattle.std.specs.Prelude.{◌≡◌, ℕ, ◌+◌, ◌<◌, ◌≤◌, ◌^◌, ◌&&◌, ◌++◌, nat_lt, true, OnOk};
 ghost use Rattle.morris_board.specs.Sets.{has, count_of};
 ghost use Rattle.morris_board.specs.Positions.{IsPosition};
@@ -20,8 +20,8 @@ use morris_board::position::Position;
 use std::alloc::AllocError;
 use std::marker::Model;
 
-/// A position that has an entry of its own, as the image of one in which the opponent stands on the
-/// representative of a class.
+/// A member of a group: a position that has an entry of its own, as the image of one in which the
+/// opponent stands on the group's set, the representative of a class.
 #[derive(Drop)]
 pub struct GroupMember<'a, B: Geometry> {
     /// The pair that the positions are of, with its classes.
@@ -32,7 +32,7 @@ pub struct GroupMember<'a, B: Geometry> {
     symmetry: u8,
     /// Its entry.
     entry: u64,
-    /// What is kept of the representative.
+    /// The group's set.
     place: Outside,
     /// The first entry in which the player to move stands on it.
     start: u64,
@@ -52,7 +52,7 @@ impl<'a, B: Geometry> Model for GroupMember<'a, B> {
 }
 
 impl<'a, B: Geometry> GroupMember<'a, B> {
-    /// What is kept of the position of which it is the image for the entries after that one.
+    /// The position of which it is the image, for the entries of the results of its quiet moves.
     pub fn from(&self) -> SuccessorEntries<'a, B>
         ensures pair { result.pair ≡ self.now.pair }
         ensures counts { is_of self.now.pair result.position ≡ true }
@@ -87,19 +87,20 @@ fn swap_sides<B: Geometry>(pair: &ClassPair<B>, position: &Position<B>) -> Posit
     }
 }
 
-/// What is kept of the stones of the player to move in positions of a pair, so that the positions
-/// that face them are found by one look-up of the opponent's stones.
+/// A group: the positions with entries of their own in which the opponent stands on an image of one
+/// set, that of the player to move in some positions of a pair. From each of these its members are
+/// found by one look-up of the opponent's stones.
 #[derive(Drop)]
 pub struct OpponentGroup<'a, B: Geometry> {
     /// The pair that the positions are of, with its classes.
     pair: &'a ClassPair<B>,
-    /// One of the positions.
+    /// A position in which the player to move has the set.
     position: Position<B>,
-    /// The symmetries whose inverse is the one that leads the image of the stones under them.
+    /// The transversal of the set.
     transversal: Points,
-    /// The stones.
+    /// The set.
     place: Outside,
-    /// The first entry in which the player to move has these stones.
+    /// The first entry in which the player to move has the set.
     start: u64,
 }
 
@@ -116,7 +117,7 @@ impl<'a, B: Geometry> Model for OpponentGroup<'a, B> {
 }
 
 impl<'a, B: Geometry> OpponentGroup<'a, B> {
-    /// What is to be kept of the stones of the player to move in a position of the pair.
+    /// The group of the stones of the player to move in a position of the pair.
     pub fn of(pair: &'a ClassPair<B>, position: &Position<B>) -> OpponentGroup<'a, B>
         requires { is_of pair.now position.now ≡ true }
         ensures { result ≡ in_pair pair.now position.now }
@@ -133,7 +134,7 @@ impl<'a, B: Geometry> OpponentGroup<'a, B> {
         }
     }
 
-    /// Goes on to what is kept of the stones of the player to move in another position of the pair,
+    /// Goes on to the group of the stones of the player to move in another position of the pair,
     /// where they are others.
     pub fn follow(&mut self, position: &Position<B>)
         requires { is_of self.old.pair position.now ≡ true }
@@ -146,8 +147,9 @@ impl<'a, B: Geometry> OpponentGroup<'a, B> {
     }
 
     /// The first entry in which the player to move stands on the representative of the class of the
-    /// opponent's stones, this representative, and the symmetries that carry `from`, the position
-    /// with the other player to move.
+    /// opponent's stones, this representative, and the symmetries that give members: those that are
+    /// both canonicalizing for `from`, the position with the other player to move, and in the
+    /// transversal.
     fn member_symmetries(
         &self,
         position: &Position<B>,
@@ -171,7 +173,8 @@ impl<'a, B: Geometry> OpponentGroup<'a, B> {
         )
     }
 
-    /// The position to which a symmetry carries the one in which the other player is to move.
+    /// The member that a symmetry gives: the image of `from`, the position with the other player to
+    /// move.
     fn member(
         &self,
         position: &Position<B>,
@@ -207,11 +210,12 @@ impl<'a, B: Geometry> OpponentGroup<'a, B> {
         }
     }
 
-    /// Adds the positions that face a position with these stones of the player to move, which are
-    /// the representative of their class: those to which the symmetries carry the position with the
-    /// other player to move that lead this player's stones, and by whose inverse the results of the
-    /// quiet moves are led back. Of all positions of the pair, each that has an entry of its own
-    /// faces one.
+    /// Adds the members that `position` gives, in which the player to move has the group's set, a
+    /// representative. They are the images of the position with the other player to move, under the
+    /// symmetries that are canonicalizing for this player's stones and in the transversal of the
+    /// set; the inverse of such a symmetry is the canonicalizing one of the results of the member's
+    /// quiet moves. Of all positions of the pair, each that has an entry of its own is given by
+    /// one.
     ///
     /// # Errors
     /// [`AllocError`] where memory runs out. Then some of them may have been added.
@@ -234,8 +238,8 @@ impl<'a, B: Geometry> OpponentGroup<'a, B> {
     }
 }
 
-/// Lists the positions that face those of the entries from `first` up to, not including, `end`, in
-/// place of what the list had.
+/// Lists the members that the positions of the entries from `first` up to, not including, `end`
+/// give, in place of what the list had.
 ///
 /// # Errors
 /// [`AllocError`] where memory runs out.

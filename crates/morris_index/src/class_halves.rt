@@ -21,13 +21,13 @@ use morris_board::points::Points;
 use std::alloc::{AllocError, Global};
 use std::marker::Model;
 
-/// What is kept of the sets of one of a pair's numbers of stones.
+/// Tables for the sets of one of a pair's two numbers of stones.
 #[derive(Drop)]
 pub(crate) struct CountTables<B: Geometry> {
     /// Their classes.
     pub(crate) classes: Classes<B>,
-    /// For each class, the symmetries that return from the images of its representative: their
-    /// inverse is the one that leads the image.
+    /// For each class, the transversal of its representative: one symmetry for each image of it,
+    /// whose inverse is the canonicalizing symmetry of the image.
     pub(crate) transversal: Vec<Points>,
     /// The sets of the other number among the points that one of these leaves free.
     others: SetList,
@@ -36,7 +36,7 @@ pub(crate) struct CountTables<B: Geometry> {
 }
 
 impl<B: Geometry> CountTables<B> {
-    /// What is kept of the sets of `own` points, where the other number is `other`.
+    /// The tables for the sets of `own` points, where the other number is `other`.
     ///
     /// # Errors
     /// [`AllocError`] where memory runs out.
@@ -72,8 +72,8 @@ impl<B: Geometry> CountTables<B> {
     }
 }
 
-/// The entries of a pair in which the two players have given numbers of stones, and what is kept so
-/// that the class of the stones of the player to move is looked up for many of them.
+/// The entries of a pair in which the two players have given numbers of stones, with the tables by
+/// which the class of the stones of the player to move is looked up for many of them.
 #[derive(Drop)]
 pub(crate) struct Half<'a, B: Geometry> {
     /// The pair.
@@ -130,7 +130,7 @@ impl<'a, B: Geometry> Half<'a, B> {
     }
 
     /// The first entry in which the player to move stands on the representative of the class of
-    /// `own`, this representative, and all symmetries that lead `own` there.
+    /// `own`, this representative, and all canonicalizing symmetries of `own`.
     pub(crate) fn canonicalize(&self, own: Points) -> (u64, Outside, Points)
         requires within { own < 2 ^ B.POINTS }
         requires count { count_of own ≡ self.now.own }

@@ -31,8 +31,8 @@ use morris_board::position::Position;
 use std::alloc::{AllocError, Global};
 use std::marker::Model;
 
-/// A pair, and the classes of the sets of its two numbers of stones. Its entries are numbered so
-/// that positions which a symmetry carries into one another mostly have the same one.
+/// A pair, with its positions numbered by classes: all positions with one canonical form have one
+/// entry. So positions that a symmetry takes into one another mostly have the same entry.
 #[derive(Drop)]
 pub struct ClassPair<B: Geometry> {
     pair: Pair<B>,
@@ -114,9 +114,10 @@ impl<B: Geometry> ClassPair<B> {
         self.first
     }
 
-    /// The entry of a position of the pair, below [`ClassPair::size`]. The position is led by the
-    /// symmetry of the points of the player to move, see [`Classes::class_of`]; positions that are
-    /// led to the same one have the same entry, and no others have it.
+    /// The entry of a position of the pair, below [`ClassPair::size`]: the entry of its canonical
+    /// form, the image under the canonicalizing symmetry of the points of the player to move, see
+    /// [`Classes::class_of`]. Positions with the same canonical form have the same entry, and no
+    /// others have it.
     pub fn index(&self, position: &Position<B>) -> u64
         requires { is_of self.now position.now ≡ true }
         ensures value { result ≡ class_index_of B.shape B.POINTS self.now position.now }
@@ -129,8 +130,8 @@ impl<B: Geometry> ClassPair<B> {
     }
 
     /// The first entry in which the player to move stands on the representative of the class of
-    /// `own`, where the opponent has `other` stones; this representative, and the symmetry that
-    /// leads `own` there.
+    /// `own`, where the opponent has `other` stones; this representative, and the canonicalizing
+    /// symmetry of `own`.
     pub(crate) fn start_of(&self, own: Points, other: u8) -> (u64, Outside, u8)
         requires within { own < 2 ^ B.POINTS }
         requires counts { are_of self.now (count_of own) other ≡ true }
@@ -197,7 +198,8 @@ impl<B: Geometry> ClassPair<B> {
         (self.ranks.numbers(set, Outside::of(outside)), rows)
     }
 
-    /// The symmetries whose inverse is the one that leads the image of `own` under them.
+    /// The transversal of `own`: the symmetries whose inverse is the canonicalizing symmetry of the
+    /// image of `own` under them.
     pub(crate) fn transversal_of(&self, own: Points, other: Points) -> Points
         requires within { own < 2 ^ B.POINTS }
         requires counts { is_of self.now (sides own other) ≡ true }
@@ -215,8 +217,8 @@ impl<B: Geometry> ClassPair<B> {
         transversal_of(&tables.classes, &rows, &tables.transversal, own)
     }
 
-    /// The position of an entry, below [`ClassPair::size`]: the one to which all positions with
-    /// this entry are led.
+    /// The position of an entry, below [`ClassPair::size`]: the canonical form of all positions
+    /// with this entry.
     pub fn position(&self, index: u64) -> Position<B>
         requires { index < class_size_of B.shape B.POINTS self.now }
         ensures index { class_index_of B.shape B.POINTS self.now result ≡ index }
@@ -228,8 +230,8 @@ impl<B: Geometry> ClassPair<B> {
         self.row_from(index).position(0)
     }
 
-    /// [`ClassPair::position`], where the position of the entry before is at hand. It is found from
-    /// that one while the player to move stands on the same representative.
+    /// [`ClassPair::position`], where the position of the entry before is at hand. The next one is
+    /// found from it while the player to move stands on the same representative.
     pub fn next_position(&self, before: &Position<B>, index: u64) -> Position<B>
         requires counts { is_of self.now before.now ≡ true }
         requires own { representative_of B.shape before.now.own ≡ before.now.own }
@@ -269,8 +271,8 @@ impl<B: Geometry> ClassPair<B> {
         }
     }
 
-    /// All positions whose entry is `index`, below [`ClassPair::size`], each once: those that are
-    /// led to [`ClassPair::position`].
+    /// All positions whose entry is `index`, below [`ClassPair::size`], each once: those whose
+    /// canonical form is [`ClassPair::position`].
     pub fn falls_on(&self, index: u64) -> FallsOn<'_, B>
         requires { index < class_size_of B.shape B.POINTS self.now }
         ensures listed { (s : Sides) → Contains result s ↔ HasEntry B.shape B.POINTS self.now index s }
@@ -281,7 +283,8 @@ impl<B: Geometry> ClassPair<B> {
         self.orbit_of(position)
     }
 
-    /// How many positions have each of the entries of a row of the pair: as many as the first one.
+    /// The orbit size of the entries of a row of the pair: how many positions have each of them. It
+    /// is the same for all.
     pub fn orbit_size(&self, row: &EntryRow<'_, B>) -> u64
         requires { row.now.pair ≡ self.now }
         ensures each { (place : ℕ) → place < row.now.len → HasPositions B.shape B.POINTS self.now (row.now.first + place) result }
@@ -293,7 +296,7 @@ impl<B: Geometry> ClassPair<B> {
         self.orbit_of(first).count() as u64
     }
 
-    /// The positions that are led to `position`, one of the pair.
+    /// The orbit of `position`, one of the pair: the positions whose canonical form it is.
     fn orbit_of(&self, position: Position<B>) -> FallsOn<'_, B>
         requires { is_of self.now position ≡ true }
         ensures value { result ≡ orbit_from B.shape position 0 }

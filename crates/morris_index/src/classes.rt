@@ -16,7 +16,9 @@ use std::alloc::{AllocError, Global};
 use std::marker::{Model, PhantomData};
 
 /// The classes of the sets of a number of points, 3 to 9. The class of a set is the set of its
-/// images under the symmetries of the board; its representative is the one with the least mask.
+/// images under the symmetries of the board; its representative, the canonical form of all of them,
+/// is the one with the least mask. The canonicalizing symmetry of a set is the least that takes it
+/// there.
 #[derive(Drop)]
 pub struct Classes<B: Geometry> {
     count: u8,
@@ -36,17 +38,17 @@ impl<B: Geometry> Model for Classes<B> {
     ghost invariant = { λ classes. IsClasses B.shape B.POINTS classes.count (classes_in classes.table.set_classes.items) (canonicalizing_in classes.table.set_classes.items) classes.table.representatives.items };
 }
 
-/// What is kept of a set of points.
+/// What the table has of a set of points.
 #[derive(Clone, Copy)]
 struct SetClass {
     /// Its class.
     class: u32,
-    /// The mask of all symmetries that lead to its representative.
+    /// The mask of all its canonicalizing symmetries: those that take it to its representative.
     canonicalizing: u32,
 }
 
-/// What is kept of sets of points: at the rank of each, where it is led; and the representatives,
-/// in the order of their classes.
+/// A table of sets of points: at the rank of each, its class and how it becomes canonical; and the
+/// representatives, in the order of their classes.
 #[derive(Drop)]
 struct ClassTable {
     set_classes: Vec<SetClass>,
@@ -85,8 +87,8 @@ impl<B: Geometry> Classes<B> {
         self.table.representatives.len() as u32
     }
 
-    /// The class of a set of as many points as the classes are of, and the least symmetry that
-    /// leads the set to the representative.
+    /// The class of a set with as many points as the sets of these classes have, and its
+    /// canonicalizing symmetry.
     pub fn class_of(&self, set: Points) -> (u32, u8)
         requires within { set < 2 ^ B.POINTS }
         requires count { count_of set ≡ self.now }
@@ -103,8 +105,8 @@ impl<B: Geometry> Classes<B> {
         )
     }
 
-    /// The class of a set of as many points as the classes are of, its representative, and all
-    /// symmetries that lead the set there.
+    /// The class of a set with as many points as the sets of these classes have, its
+    /// representative, and all its canonicalizing symmetries.
     pub(crate) fn canonicalize(&self, rows: &RankRows<'_>, set: Points) -> (u32, Outside, Points)
         requires within { set < 2 ^ B.POINTS }
         requires count { count_of set ≡ self.now }
@@ -135,7 +137,7 @@ impl<B: Geometry> Classes<B> {
         self.outside_of(class).points
     }
 
-    /// The same with what numbers outside it need.
+    /// The same, with where the numbers of the points outside it begin in each ring.
     fn outside_of(&self, class: u32) -> Outside
         requires { class < class_count B.shape self.now }
         ensures least { representative_of B.shape result ≡ result }
@@ -147,7 +149,7 @@ impl<B: Geometry> Classes<B> {
     }
 }
 
-/// The least of all symmetries that lead a set to its representative.
+/// The least of all canonicalizing symmetries of a set.
 pub(crate) fn least_canonicalizing<B: Geometry>(set: Points, canonicalizing: Points) -> u8
     requires within { set < 2 ^ B.POINTS }
     requires canonicalizing { AreCanonicalizing B.shape set canonicalizing }
@@ -160,7 +162,7 @@ pub(crate) fn least_canonicalizing<B: Geometry>(set: Points, canonicalizing: Poi
     }
 }
 
-/// Keeps where all sets of `count` points are led, in the order of their ranks, where none is kept.
+/// Fills the empty table with all sets of `count` points, in the order of their ranks.
 fn fill_table<B: Geometry>(table: &mut ClassTable, count: u8) -> Result<(), AllocError>
     requires few { count ≤ 9 }
     requires fits { count ≤ B.POINTS }
@@ -178,8 +180,8 @@ fn fill_table<B: Geometry>(table: &mut ClassTable, count: u8) -> Result<(), Allo
     Ok(())
 }
 
-/// Keeps where the set of `count` points with this rank is led, where that of the sets of all
-/// lesser ranks is kept. A set that is its own representative has the next class.
+/// Adds the set of `count` points with this rank to the table, which has those of all lesser ranks.
+/// A set that is its own representative has the next class.
 fn add_set<B: Geometry>(
     table: &mut ClassTable,
     count: u8,
@@ -207,7 +209,7 @@ fn add_set<B: Geometry>(
     Ok(())
 }
 
-/// The image of a set with the least mask, and all symmetries that lead to it.
+/// The image of a set with the least mask, and all symmetries that give it.
 fn least_image<B: Geometry>(set: Points) -> (Points, Points)
     requires { set < 2 ^ B.POINTS }
     ensures image { result.0 ≡ representative_of B.shape set }

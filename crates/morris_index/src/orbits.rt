@@ -1,4 +1,4 @@
-//! The positions that have the same entry.
+//! The orbit of an entry: the positions that have it.
 ghost use Rattle.std.specs.Prelude.{◌≡◌};
 ghost use Rattle.std.specs.Iterator.{YieldsFirst, item_count};
 ghost use Rattle.morris_board.specs.Sets.{count_of};
@@ -9,13 +9,13 @@ use morris_board::board::Geometry;
 use morris_board::position::Position;
 use std::marker::Model;
 
-/// An iterator over the positions that are led to the same position and so have the same entry,
-/// each once, in order of the symmetries that lead them. It takes no memory.
+/// An iterator over the positions that have one canonical form and so one entry, each once, in
+/// order of their canonicalizing symmetries. It takes no memory.
 #[derive(Drop)]
 pub struct FallsOn<'a, B: Geometry> {
     /// The classes of the sets of as many points as the player to move has stones.
     classes: &'a Classes<B>,
-    /// The position that they are led to.
+    /// Their canonical form.
     position: Position<B>,
     /// The symmetries from this one on are still to come.
     symmetry: u8,
@@ -35,8 +35,8 @@ impl<'a, B: Geometry> Model for FallsOn<'a, B> {
 }
 
 impl<'a, B: Geometry> FallsOn<'a, B> {
-    /// The positions that are led to `position`, in which the player to move has as many stones as
-    /// the sets of these classes have points.
+    /// The positions whose canonical form is `position`, in which the player to move has as many
+    /// stones as the sets of these classes have points.
     pub(crate) fn of(classes: &'a Classes<B>, position: Position<B>) -> FallsOn<'a, B>
         requires { classes.now ≡ count_of position.own }
         ensures { result ≡ orbit_from B.shape position 0 }
@@ -62,8 +62,8 @@ impl<'a, B: Geometry> Iterator for FallsOn<'a, B> {
             self.symmetry += 1;
             let back = B::inverse(symmetry);
             let position = self.position.image(back);
-            // A set may be led to the representative by several symmetries. Only by the one of its
-            // class it comes here, so that no position comes twice.
+            // Several symmetries may take a set to its representative. A position comes by its
+            // canonicalizing symmetry alone, the least of them, so that none comes twice.
             if self.classes.class_of(position.own()).1 == symmetry {
                 return Some(position);
             }

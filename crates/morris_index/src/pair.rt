@@ -23,7 +23,7 @@ pub struct Pair<B: Geometry> {
     greater: u8,
     /// The lesser number.
     lesser: u8,
-    /// The board, of which nothing is kept.
+    /// The board, of which nothing is stored.
     #[derive_where(skip)]
     board: PhantomData<B>,
 }
@@ -200,8 +200,8 @@ impl<B: Geometry> Pair<B> {
         }
     }
 
-    /// [`Pair::position`], where the position before is at hand. It is found from that one while
-    /// the points of the player to move stay the same.
+    /// [`Pair::position`], where the position of the index before is at hand. The next one is found
+    /// from it while the points of the player to move stay the same.
     pub fn next_position(&self, before: &Position<B>, index: u64) -> Position<B>
         requires counts { is_of self.now before.now ≡ true }
         requires before { index_of B.POINTS self.now before.now + 1 ≡ index }

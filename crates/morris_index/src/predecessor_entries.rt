@@ -1,4 +1,4 @@
-//! The entries of the positions before a position, where they are numbered by classes.
+//! The entries of the predecessors of a position, where positions are numbered by classes.
 ghost use Rattle.std.specs.Prelude.{◌≡◌, ◌<◌, ◌||◌, ◌++◌, not, true, OnOk};
 ghost use Rattle.morris_board.specs.Sets.{has};
 ghost use Rattle.morris_index.specs.Pairs.{is_of};
@@ -13,8 +13,8 @@ use morris_board::position::Position;
 use std::alloc::AllocError;
 use std::marker::Model;
 
-/// What is kept of a position, so that the entries of the positions before a quiet move to it are
-/// found by one look-up of the stones of the player who made it.
+/// A position, with the tables by which the entries of its predecessors by a quiet un-move are
+/// found by one look-up of the stones of the player who made the move.
 #[derive(Drop)]
 pub struct PredecessorEntries<'a, B: Geometry> {
     /// The pair that the position is one of, with its classes.
@@ -23,10 +23,9 @@ pub struct PredecessorEntries<'a, B: Geometry> {
     position: Position<B>,
     /// How many stones the player to move has.
     count: u8,
-    /// The entries of the positions before it.
+    /// The entries with the numbers of stones of its predecessors.
     before: Half<'a, B>,
-    /// The symmetries whose inverse is the one that leads the image of the stones of the player to
-    /// move under them.
+    /// The transversal of the stones of the player to move.
     transversal: Points,
 }
 
@@ -46,7 +45,7 @@ impl<'a, B: Geometry> Model for PredecessorEntries<'a, B> {
 }
 
 impl<'a, B: Geometry> PredecessorEntries<'a, B> {
-    /// What is to be kept of a position of the pair.
+    /// A position of the pair, with the tables for its predecessors.
     pub fn of(pair: &'a ClassPair<B>, position: &Position<B>) -> PredecessorEntries<'a, B>
         requires { is_of pair.now position.now ≡ true }
         ensures { result ≡ in_pair pair.now position.now }
@@ -62,11 +61,11 @@ impl<'a, B: Geometry> PredecessorEntries<'a, B> {
         }
     }
 
-    /// Adds the entries of the positions from which a quiet move leads to the entry of this one and
-    /// comes down to the move from `from` to `to`: the symmetry that leads the position after it
-    /// leads that one to this, and takes the points of the move to `from` and `to`. There is an
-    /// entry for each such move, mostly one. A stone of the opponent stands on `to`, and `from` is
-    /// vacant.
+    /// Adds the entries of the predecessors by the un-move from `to` back to `from`. These are the
+    /// entries from which a quiet move leads to the entry of this position and comes down to the
+    /// move from `from` to `to`: the canonicalizing symmetry of the result takes it to this
+    /// position, and the points of the move to `from` and `to`. There is an entry for each such
+    /// move, mostly one. A stone of the opponent stands on `to`, and `from` is vacant.
     ///
     /// # Errors
     /// [`AllocError`] where memory runs out. Then some of the entries may have been added.

@@ -1,4 +1,4 @@
-//! The indices of the positions before a position.
+//! The indices of the predecessors of a position.
 ghost use Rattle.std.specs.Prelude.{◌≡◌, ℕ, ◌<◌, ◌^◌, ◌||◌, ◌++◌, not, nat_lt, true, map, OnOk};
 ghost use Rattle.morris_board.specs.Sets.{has, members};
 ghost use Rattle.morris_index.specs.Pairs.{is_of, index_of};
@@ -13,8 +13,8 @@ use morris_board::position::Position;
 use std::alloc::AllocError;
 use std::marker::Model;
 
-/// What is kept of a position, so that the index of each position before a quiet move to it is
-/// found in constant time.
+/// A position, with sums by which the index of each predecessor by a quiet un-move is found in
+/// constant time.
 #[derive(Drop)]
 pub struct PredecessorIndices<B: Geometry> {
     /// The pair that the position is one of.
@@ -43,7 +43,7 @@ impl<B: Geometry> Model for PredecessorIndices<B> {
 }
 
 impl<B: Geometry> PredecessorIndices<B> {
-    /// What is to be kept of a position of the pair.
+    /// A position of the pair, with its sums.
     // Out of line, so that what may do without it doesn't make room for its sums.
     #[inline(never)]
     pub fn of(pair: &Pair<B>, position: &Position<B>) -> PredecessorIndices<B>
@@ -80,8 +80,8 @@ impl<B: Geometry> PredecessorIndices<B> {
             + self.renumbered.renumbered_end(other, own, point, lower)
     }
 
-    /// The index of the position before a quiet move from `from` to `to` led to the position: a
-    /// stone of the opponent stands on `to`, and `from` is vacant.
+    /// The index of the predecessor by the un-move from `to` back to `from`: a stone of the
+    /// opponent stands on `to`, and `from` is vacant.
     pub fn index(&self, from: u8, to: u8) -> u64
         requires start { from < B.POINTS }
         requires vacant { not (has self.now.position.own from || has self.now.position.other from) ≡ true }
@@ -94,7 +94,7 @@ impl<B: Geometry> PredecessorIndices<B> {
 
     /// Adds what [`PredecessorIndices::add`] adds, for sources that all lie below `to`, or all past
     /// it.
-    // Inlined, so that each way has a loop of its own, without a test in it.
+    // Inlined, so that either case has a loop of its own, without a test in it.
     #[inline(always)]
     fn add_from(
         &self,
@@ -116,7 +116,7 @@ impl<B: Geometry> PredecessorIndices<B> {
         Ok(())
     }
 
-    /// Adds the indices of the positions before the quiet moves to `to` from each of `sources`, in
+    /// Adds the indices of the predecessors by the un-moves from `to` back to each of `sources`, in
     /// ascending order of these: a stone of the opponent stands on `to`, and the sources are
     /// vacant.
     ///

@@ -43,7 +43,7 @@ impl Model for Outside {
 }
 
 impl Outside {
-    /// What is kept of a set.
+    /// The set, with where the numbers of the free points begin in its second and third ring.
     pub(crate) fn of(points: Points) -> Outside
         ensures { result ≡ points }
     {

@@ -23,7 +23,7 @@ pub struct Standing {
     pub(crate) own: Points,
     /// The first entry of these positions.
     pub(crate) start: u64,
-    /// The symmetry that leads the positions to those with entries of their own.
+    /// The canonicalizing symmetry of these positions.
     symmetry: u8,
     /// The images of the stones of the player to move under it.
     place: Points,
@@ -33,8 +33,8 @@ pub struct Standing {
     third: u8,
 }
 
-/// The image of a set under the symmetry that leads a position. Mostly the player to move stands on
-/// a representative, and this is the identity.
+/// The image of a set under the canonicalizing symmetry of a position. Mostly the player to move
+/// stands on a representative, and this is the identity.
 fn canonical_image<B: Geometry>(symmetry: u8, set: Points) -> Points
     requires symmetry { symmetry < B.SYMMETRIES }
     requires within { set < 2 ^ B.POINTS }

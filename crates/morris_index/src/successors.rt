@@ -1,4 +1,4 @@
-//! The indices of the positions after a position.
+//! The indices of the successors of a position.
 ghost use Rattle.std.specs.Prelude.{◌≡◌, ◌<◌, ◌||◌, not, true};
 ghost use Rattle.morris_board.specs.Sets.{has};
 ghost use Rattle.morris_index.specs.Pairs.{is_of, index_of};
@@ -12,8 +12,8 @@ use morris_board::board::Geometry;
 use morris_board::position::Position;
 use std::marker::Model;
 
-/// What is kept of a position, so that the index of each position after a quiet move from it is
-/// found in constant time.
+/// A position, with sums by which the index of each successor by a quiet move is found in constant
+/// time.
 #[derive(Drop)]
 pub struct SuccessorIndices<B: Geometry> {
     /// The pair that the position is one of.
@@ -38,7 +38,7 @@ impl<B: Geometry> Model for SuccessorIndices<B> {
 }
 
 impl<B: Geometry> SuccessorIndices<B> {
-    /// What is to be kept of a position of the pair.
+    /// A position of the pair, with its sums.
     pub fn of(pair: &Pair<B>, position: &Position<B>) -> SuccessorIndices<B>
         requires { is_of pair.now position.now ≡ true }
         ensures { result ≡ in_pair pair.now position.now }
@@ -54,7 +54,7 @@ impl<B: Geometry> SuccessorIndices<B> {
         }
     }
 
-    /// The index of the position after a quiet move from `from` to `to`: a stone of the player to
+    /// The index of the successor by the quiet move from `from` to `to`: a stone of the player to
     /// move stands on `from`, and `to` is vacant.
     pub fn index(&self, from: u8, to: u8) -> u64
         requires start { has self.now.position.own from ≡ true }

@@ -1,5 +1,5 @@
-//! The symmetries that return from the images of a set: their inverse is the one that leads the
-//! image under them.
+//! Transversals. That of a set has the symmetries whose inverse is the canonicalizing symmetry of
+//! the image of the set under them: for a representative, one symmetry for each of its images.
 ghost use Rattle.std.specs.Prelude.{◌≡◌, ◌<◌, ◌^◌, IfOk};
 ghost use Rattle.morris_board.specs.Sets.{count_of};
 ghost use Rattle.morris_index.specs.Classes.{class_count};
@@ -11,7 +11,7 @@ use morris_board::board::Geometry;
 use morris_board::points::Points;
 use std::alloc::{AllocError, Global};
 
-/// The symmetries that return from the images of `own`.
+/// The transversal of `own`.
 fn find_transversal<B: Geometry>(classes: &Classes<B>, own: Points) -> Points
     requires within { own < 2 ^ B.POINTS }
     requires count { count_of own ≡ classes.now }
@@ -27,7 +27,7 @@ fn find_transversal<B: Geometry>(classes: &Classes<B>, own: Points) -> Points
     symmetries
 }
 
-/// The symmetries that return from the images of the representative of each class.
+/// The transversal of the representative of each class.
 ///
 /// # Errors
 /// [`AllocError`] where memory runs out.
@@ -45,8 +45,7 @@ pub(crate) fn make_transversals<B: Geometry>(
     Ok(table)
 }
 
-/// The symmetries that return from the images of `own`, which are at hand where it is the
-/// representative of its class.
+/// The transversal of `own`, looked up where `own` is the representative of its class.
 pub(crate) fn transversal_of<B: Geometry>(
     classes: &Classes<B>,
     rows: &RankRows<'_>,

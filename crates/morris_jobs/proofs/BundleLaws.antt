@@ -25,7 +25,7 @@ module _ {A S : Type 0} (board : Shape) (takes : S → Table → S → Result (U
   Goes left here now ending = TakesBundle board takes answer left here now ending
 
   -- Some files of a bundle were taken: where the others lead, of which so many are taken at most,
-  -- there leads the whole.
+  -- the whole bundle leads.
   abbrev pub Leads : S → Input → ℕ → S → Input → Type 0
   Leads start before left here now =
       (ending : Ending A S) → TakesBundle board takes answer left here now ending → TakesBundle board takes answer 64 start before ending

@@ -1,4 +1,4 @@
--- How long the texts are at most that are printed, so that their bytes can be counted.
+-- How long the printed texts are at most, so that their bytes can be counted.
 use Rattle.std.proofs.Common.{◌≡◌, ℕ, ◌+◌, ◌*◌, ◌/◌, ◌%◌, ◌^◌, ◌<◌, ◌≤◌, Bool, true, false, List, [], ◌∷◌, ◌++◌, codes, drop, length, slice_index, Option, None, Some, arith, length-append, length-drop, subst, ap, if◌then◌else◌}
 use Rattle.std.specs.Prelude.{nat_eq, nat_lt}
 use Rattle.std.specs.List.{flat_map, range_with_len}
@@ -19,7 +19,7 @@ use Rattle.morris_jobs.specs.declared.progress_printer.ProgressEvent.TheVariants
 use Rattle.morris_jobs.specs.declared.progress_printer.SoFar.{SoFar}
 use Rattle.morris_jobs.specs.Progress.{is_passing, with_label, left_text, event_line, event_text, percent_of, so_far_text}
 
--- ---- counts, as lines of text
+-- ---- counts, as lines of plain text
 
 depth_label_few : (depth : ℕ) → length (depth_label depth) ≤ 8
 depth_label_few depth = by_test (nat_eq (depth % 2) 0) 8 (codes "lost in ") (codes "won in ") (omega arith) (omega arith)
@@ -121,7 +121,7 @@ left_few seconds =
     (by_test (nat_lt seconds 120) 81 (with_label (codes ", about ") seconds ++ codes " s left") (with_label (codes ", about ") minutes ++ codes " min left")
     (simp length-append (omega (arith, decimal_few seconds))) (simp length-append (omega (arith, decimal_few minutes))))
 
--- what is told of a pair, after so many bytes
+-- the progress within a pair, after so many bytes
 so_far_few : (front : List ℕ) (s : SoFar) → length front ≤ 280 → length (front ++ so_far_text s) ≤ 700
 so_far_few front s few =
     simp length-append

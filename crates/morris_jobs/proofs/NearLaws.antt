@@ -1,4 +1,4 @@
--- The tables that stay while those that no pair to come needs are let go.
+-- The tables that stay when those that no later pair needs are dropped.
 use Rattle.std.proofs.Common.{◌≡◌, ◌≢◌, ℕ, ◌+◌, ◌-◌, ◌<◌, ◌≤◌, Bool, true, false, ◌&&◌, leb, ltb, nat_le, List, [], ◌∷◌, ◌++◌, Option, Some, None, is_some, refl, sym, ap, ◌∙◌, subst, inl, inr, arith}
 use Rattle.std.specs.Prelude.{IfSome, option_to_list}
 use Rattle.std.specs.List.{Contains, list_all}
@@ -109,11 +109,11 @@ pub last_near : (pair : Counts) (before after : List Counts) (c : Counts) (waiti
 last_near pair before after c None build_args split last = tt
 last_near pair before after c (Some d) build_args split last = follows pair before after c d build_args split last.0 last.1
 
--- a pair to come may need the table of this one: none of those so far has two stones more
+-- a later pair may need the table of this one: none of those so far has two stones more
 abbrev pub IsNear : List Counts → Counts → Type 0
 IsNear done d = (e : Counts) → Contains done e → stones e ≤ stones d + 1
 
--- there are the exact tables of all pairs so far that one to come may need
+-- there are the exact tables of all pairs so far that a later one may need
 abbrev pub HasNear : Shape → Layout → Stored → List Counts → Type 0
 HasNear board l tables done = (d : Counts) → Contains done d → IsNear done d → HasExactAt board l tables d
 
@@ -121,13 +121,13 @@ module _ (board : Shape) (l : Layout) (pair : Counts) (before after : List Count
   near : (need : Counts) → Contains (all_needs c) need → IsNear before need
   near need m = λ e k. omega (arith, below-rises pair before after c e split k, needs-one_less c need m)
 
-  -- the next pair finds the tables that it needs, also once those of fewer stones are let go
+  -- the next pair finds the tables that it needs, also once those of fewer stones are dropped
   pub near-ready : (tables unchanged : Stored) → HasNear board l tables before → ArePruned tables unchanged c → first_missing unchanged c ≡ None
   near-ready tables unchanged has goes = none-missing unchanged c (λ need m.
       let at = has need (build_args before after c need (sym split) m) (near need m) in
       ap is_some (goes need (omega (arith, needs-one_less c need m)) ∙ at.1))
 
-  -- with its own table there are again all that one to come may need
+  -- with its own table there are again all that a later one may need
   pub near-more : (tables unchanged new : Stored) → HasNear board l tables before → ArePruned tables unchanged c
       → HasExactAt board l new c → ((d : Counts) → d ≢ c → table_on new d ≡ table_on unchanged d) → HasNear board l new (before ++ c ∷ [])
   near-more tables unchanged new has goes here others = λ d m is_near. elim (cases_pair d c) [
@@ -141,7 +141,7 @@ module _ (board : Shape) (l : Layout) (pair : Counts) (before after : List Count
     ]
   ]
 
--- letting tables go by their numbers of stones
+-- dropping tables by their numbers of stones
 module _ (old new : Stored) (c : Counts) (goes : (d : Counts) → table_on new d ≡ retained_from (stones c - 1) old d) where
   pub let_go-spares : ArePruned old new c
   let_go-spares = λ d near.

@@ -1,4 +1,4 @@
--- What is answered of an order that names a pair, by a team that there may be.
+-- What is answered of build arguments: of the pair that they name, and of their workers and blocks.
 use Rattle.std.proofs.Common.{◌≡◌, ℕ, Bool, true, false, List, Option, None, Some, Result, Ok, Err, refl, sym, ap, subst, ◌∙◌}
 use Rattle.std.specs.Prelude.{◌-◌, option_map, slice_index, if◌then◌else◌}
 use Rattle.morris_board.specs.Boards.{Shape}
@@ -24,7 +24,7 @@ module _ {T : Type 0} {n : ℕ} (board : Shape) (points : board.points ≡ n) (t
       subst (λ found. OnRead (λ refused. refused) found r untouched (λ c. OnParallelism (range_fault workers blocks) r untouched (answers c)))
       (read ∙ ap (λ m. read_pair_of m text) (sym points)) (subst (λ wrong. OnParallelism wrong r untouched (answers pair)) (sym fits) here)
 
--- what is so of each refusal of a text that names no pair, and of a team that there may not be
+-- what holds of each refusal of a text that names no pair, and of workers and blocks out of range
 module _ (P : Fault → Type 0) where
   pub of_unread : P fault.Counts → P fault.Crowded → P fault.PairText → (n : ℕ) (text : List ℕ) (f : Fault) → Err f ≡ read_pair_of n text → P f
   of_unread counts crowded unnamed n text f e = by_test (is_pair_text text) (make_pair n (slice_index text 0 - 48) (slice_index text 2 - 48)) e

@@ -1,4 +1,4 @@
--- What telling one of the news makes of who tells.
+-- What reporting one event does to the state of a progress printer.
 use Rattle.std.proofs.Common.{◌≡◌, ℕ, ◌-◌, ◌^◌, ◌<◌, Bool, true, false, List, [], ◌∷◌, Option, Result, Ok, Err, is_ok, inl, inr, refl, sym, ◌∙◌, arith}
 use Rattle.std.proofs.lemmas.Bool.{cases_Bool, cases_lt}
 use Rattle.morris_board.specs.Streams.{CountsFailure}
@@ -9,7 +9,7 @@ use Rattle.morris_jobs.specs.Progress.{Becomes, BeginsWithWhole, Continues, MayR
 use Rattle.morris_jobs.specs.ProgressLaws.{Continues-silent, counts_up}
 
 module _ {E : Type 0} (contents : E → Option (List ℕ)) (failures : E → ℕ) where
-  -- one line was told
+  -- one line was written
   Reports-line : (rewrites : Bool) (a b : E) (n : ProgressEvent) (sent : Result (Unit {0}) ℕ) → WentOut (contents a) (contents b) (event_line rewrites n) sent
       → CountsFailure (failures a) (failures b) sent → failures a < 2 ^ 64 - 3 → Reports contents failures rewrites a b
   unfolding HasReported
@@ -22,12 +22,12 @@ module _ {E : Type 0} (contents : E → Option (List ℕ)) (failures : E → ℕ
         room = λ h. omega (arith, room, most);
       }
 
-  -- who tells, where this is known of how much there is to do
+  -- the state, where this is known of how much there is to do
   abbrev pub knowing : ProgressState E → Bool → ℕ → ProgressState E
   knowing a begun whole = record { lent = a.lent; sink = a.sink; reports = a.reports; rewrites = a.rewrites; has_begun = begun; whole = whole }
 
-  -- Who tells one of the news, before which it may come to be known how much there is to do, goes on
-  -- where its line went out.
+  -- Where an event is reported, before which it may become known how much there is to do, reporting
+  -- goes on if its line went out.
   pub Continues-speaks : (a b : ProgressState E) (n : ProgressEvent) (begun : Bool) (whole : ℕ) → Speaks contents failures (knowing a begun whole) b n
       → (a.has_begun ≡ false → begun ≡ true → BeginsWithWhole b.has_begun b.reports b.whole (n ∷ []))
       → (a.has_begun ≡ true → (begun ≡ true) × (whole ≡ a.whole)) → Continues contents failures a b
@@ -73,7 +73,7 @@ module _ {E : Type 0} (contents : E → Option (List ℕ)) (failures : E → ℕ
       uncounted (Err part) e h = cc
 
   module _ {R : Type 0} where
-    -- who tells one of the news
+    -- reporting one event
     pub Becomes-speaks : (p q : ProgressPrinter R E) (n : ProgressEvent) → Speaks contents failures (progress_state_of p) (progress_state_of q) n → Becomes contents failures p q
     Becomes-speaks p q n speaks =
         Continues-speaks (progress_state_of p) (progress_state_of q) n (has_begun_of p) (whole_of p) speaks

@@ -1,6 +1,6 @@
 -- How a command comes to what it does: by the name of a board, by a text or a file that it reads,
--- and by how many workers and blocks there may be. Where one of these is refused, that is its
--- answer, and all is as it was.
+-- and by how many workers and blocks there may be. Where one of these is refused, the refusal is
+-- its answer, and all is as it was.
 use Rattle.std.specs.Prelude.{◌≡◌, ℕ, List, Option, Some, None, Result, Ok, Err}
 use Rattle.morris_board.specs.Boards.{Shape}
 use Rattle.morris_index.specs.Pairs.{Counts}
@@ -16,7 +16,7 @@ abbrev pub OnBoard : {T : Type 0} → Option Shape → Result T Fault → Type 0
 OnBoard None result untouched answers = (result ≡ Err fault.Board) × untouched
 OnBoard (Some board) result untouched answers = answers board
 
--- the fault that a refusal is told by, or what is answered of what was read
+-- the fault of a refusal, or what is answered of what was read
 abbrev pub OnRead : {A E T : Type 0} → (E → Fault) → Result A E → Result T Fault → Type 0 → (A → Type 0) → Type 0
 OnRead reported (Err refused) result untouched answers = (result ≡ Err (reported refused)) × untouched
 OnRead reported (Ok value) result untouched answers = answers value

@@ -1,4 +1,4 @@
--- The tables that are asked for, and what is so when one of them is built.
+-- Which tables are built, and what holds when one of them is.
 use Rattle.std.specs.Prelude.{◌≡◌, ⊤, ℕ, ◌+◌, ◌<◌, ◌≤◌, Bool, Some, None, if◌then◌else◌}
 use Rattle.morris_board.specs.Boards.{Shape}
 use Rattle.morris_index.specs.Pairs.{Counts}
@@ -23,7 +23,7 @@ HasExactAt board l shelf c = (t : Table) × (table_on shelf c ≡ Some t) × (t.
 abbrev pub stones : Counts → ℕ
 stones c = c.greater + c.lesser
 
--- what a pair or one after it may need is still there: it needs tables of one stone less
+-- what a pair or a later one may need is still there: it needs tables of one stone fewer
 abbrev pub ArePruned : Stored → Stored → Counts → Type 0
 ArePruned old new c = (d : Counts) → stones c ≤ stones d + 1 → table_on new d ≡ table_on old d
 

@@ -10,9 +10,9 @@ use Rattle.morris_jobs.specs.declared.fault.Fault.TheVariants as fault
 use Rattle.morris_jobs.specs.Faults.{read_fault}
 use Rattle.morris_jobs.specs.Inputs.{Input}
 
--- The next file of an input, before which it is this and after which it is that, is read so: its
--- table is found, or none where there is no byte, or why it is refused. Room is wanting in it only
--- where no step before room is first taken refuses it.
+-- The next file of an input, which is `before` and then `after`, is read so: its table is found, or
+-- none where there is no byte, or why it is refused. Memory runs out in it only if nothing before
+-- the first allocation refuses the file.
 pub record IsNext (board : Shape) (before after : Input) (found : Result (Option Table) ReadFault) : Type 0 where
   pub room : found ≡ Err read.Memory → MayTakeRoom board before.bytes
   pub read : Reads (next_file_in board) before.bytes after.bytes found
@@ -23,13 +23,13 @@ pub record IsNext (board : Shape) (before after : Input) (found : Result (Option
 abbrev pub most_files : ℕ
 most_files = 64
 
--- how a bundle ends: what is answered, what the files have led to, and what is then left of the
+-- how a bundle ends: what is answered, the state after its files, and what is then left of the
 -- input
 abbrev pub Ending : Type 0 → Type 0 → Type 0
 Ending A S = Result A Fault × S × Input
 
--- Each table is taken, which leads from what the files before it have led to on, or is refused;
--- where each was taken, what they have led to is answered.
+-- Each table is taken, which leads from the state after the files before it to the next one, or is
+-- refused; where each was taken, the state after all is answered.
 module _ {A S : Type 0} (board : Shape) (takes : S → Table → S → Result (Unit {0}) Fault → Type 0) (answer : S → Result A Fault) where
   -- what follows from what was read: the fault of a file that is refused, or the end, or what
   -- becomes of the file's table

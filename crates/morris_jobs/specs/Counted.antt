@@ -14,7 +14,7 @@ use Rattle.morris_jobs.specs.declared.fault.Fault.{Fault}
 use Rattle.morris_jobs.specs.declared.fault.Fault.TheVariants as fault
 use Rattle.morris_jobs.specs.Faults.{Prints}
 
--- ---- lines of text
+-- ---- lines of plain text
 
 -- an even depth is lost, an odd one won
 abbrev pub depth_label : ℕ → List ℕ
@@ -59,21 +59,21 @@ csv_half own other tallies =
     csv_line own other (codes ",draw,") None (slice_index tallies 0) ++ csv_depths own other (codes ",won,") 1 (drop 1 tallies)
     ++ csv_depths own other (codes ",lost,") 0 (drop 1 tallies)
 
--- the lines of those with the lesser number of stones of the player to move, where it is another
--- one
+-- the lines of those whose player to move has the smaller number of stones, unless the two numbers
+-- are the same
 abbrev pub csv_lesser : Counts → List ℕ → List ℕ
 csv_lesser pair tallies = if nat_eq pair.greater pair.lesser then [] else csv_half pair.lesser pair.greater tallies
 
--- All of it: a line of the fields' names, then the lesser number of stones of the player to move,
--- then the greater one.
+-- All of it: a line of the fields' names, then the smaller number of stones of the player to move,
+-- then the larger one.
 unfoldable pub csv_text : Counts → List ℕ → List ℕ → List ℕ
 csv_text pair lesser greater =
     codes "own,other,result,depth,positions\n" ++ csv_lesser pair lesser ++ csv_half pair.greater pair.lesser greater
 
 -- ---- what is printed of entries
 
--- What is printed of positions that say codes in this way: the text of their tallies; or the lines
--- of fields of the tallies of either number of stones of the player to move.
+-- What is printed of positions that have their codes in this way: the text of their tallies; or the
+-- lines of fields of the tallies for either number of stones of the player to move.
 abbrev pub PrintsTallies : {T : Type 0} → Shape → Counts → Bool → (Sides → ℕ → Type 0) → Option (List ℕ) → Option (List ℕ) → Result T Fault → Type 0
 PrintsTallies board pair false says old new result =
     (tallies : List ℕ) × AreTallies says tallies × Prints old new (stats_text board.points pair tallies) result

@@ -28,18 +28,18 @@ use Rattle.morris_jobs.specs.declared.flaw.Flaw.TheVariants as flaw
 use Rattle.morris_jobs.specs.declared.wording.Words.{Words}
 use Rattle.morris_jobs.specs.declared.wording.Words.TheVariants.{Plain, Number, Pair}
 
--- the fault that a refused text is answered with
+-- the fault that answers a refused position string
 abbrev pub text_fault : TextFault → Fault
 text_fault text.Length = fault.Length
 text_fault (text.Character place) = fault.Character place
 text_fault text.Stones = fault.Stones
 
--- the fault that two refused numbers of stones are answered with
+-- the fault that answers two refused numbers of stones
 abbrev pub pair_fault : PairFault → Fault
 pair_fault pair.Counts = fault.Counts
 pair_fault pair.Crowded = fault.Crowded
 
--- the fault that a refused file is answered with
+-- the fault that answers a refused file
 abbrev pub read_fault : ReadFault → Fault
 read_fault read.Short = fault.Short
 read_fault read.Magic = fault.Magic
@@ -53,21 +53,21 @@ read_fault read.Trailing = fault.Trailing
 read_fault read.Read = fault.Read
 read_fault read.Memory = fault.Memory
 
--- the fault that positions which aren't counted are answered with
+-- the fault that answers positions which aren't counted
 abbrev pub count_fault : CountFault → Fault
 count_fault count.Memory = fault.Memory
 count_fault count.Read = fault.Read
 
--- the fault that a missing table is answered with
+-- the fault that answers a missing table
 abbrev pub needs_fault : Counts → Fault
 needs_fault c = fault.Needs c.greater c.lesser
 
--- the fault that a table which isn't believed is answered with
+-- the fault that answers a table which isn't verified
 abbrev pub verify_fault : {B : Type 0} → VerifyFault B → Fault
 verify_fault (verify.Needs needs) = needs_fault needs.0
 verify_fault (verify.Differs index) = fault.Differs index
 
--- the fault that a refusal of the workers is answered with
+-- the fault that answers a refusal of the workers
 abbrev pub solve_fault : SolveFault → Fault
 solve_fault solve.Workers = fault.Workers
 solve_fault solve.Blocks = fault.Blocks
@@ -75,7 +75,7 @@ solve_fault solve.Memory = fault.Memory
 solve_fault (solve.Missing number) = fault.Missing number
 solve_fault solve.TooDeep = fault.TooDeep
 
--- the fault that a refused build, or a refused sweep, is answered with
+-- the fault that answers a refused build, or a refused sweep
 abbrev pub build_fault : {B : Type 0} → BuildFault B → Fault
 build_fault (build.Needs needs) = needs_fault needs.0
 build_fault build.Workers = fault.Workers
@@ -84,7 +84,7 @@ build_fault build.Memory = fault.Memory
 build_fault (build.Missing number) = fault.Missing number
 build_fault build.TooDeep = fault.TooDeep
 
--- the fault that a refused probe is answered with
+-- the fault that answers a refused probe
 abbrev pub probe_fault : {B : Type 0} → ProbeFault B → Fault
 probe_fault (probe.Needs needs) = needs_fault needs.0
 probe_fault probe.Memory = fault.Memory
@@ -193,7 +193,7 @@ flaw_in fault.Trailing = Some flaw.Trailing
 flaw_in fault.Read = Some flaw.Read
 flaw_in _ = None
 
--- a fault as it is told where it was met in the file of a pair: a flaw says of which file it is
+-- a fault as it is reported where it was met in the file of a pair: a flaw says of which file it is
 abbrev pub in_file : Counts → Fault → Fault
 in_file c f = elim (flaw_in f) [ None ↦ f | Some found ↦ fault.InFile c.greater c.lesser found ]
 

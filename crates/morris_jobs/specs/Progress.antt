@@ -1,4 +1,4 @@
--- What is told of how far a command is.
+-- What is reported of the progress of a command.
 use Rattle.std.specs.Prelude.{◌≡◌, ◌⊎◌, ⊤, ℕ, ◌+◌, ◌-◌, ◌*◌, ◌/◌, ◌%◌, ◌^◌, ◌<◌, ◌≤◌, nat_eq, nat_lt, if◌then◌else◌, max, Bool, true, false, List, [], ◌∷◌, ◌++◌, codes, Option, Result, is_ok}
 use Rattle.std.specs.Borrow.{GName}
 use Rattle.std.specs.Fmt.{decimal}
@@ -28,15 +28,15 @@ left_text seconds =
     else with_label (codes ", about ") (seconds / 60 + seconds % 60 / 30) ++ codes " min left")
 
 -- `, D of N entries (P %), S s`, where D of the N entries are done, P in a hundred, S seconds after
--- the start; and how long the rest takes
+-- the start; and how much longer it takes
 abbrev pub so_far_text : SoFar → List ℕ
 so_far_text s =
     with_label (codes ", ") s.done ++ with_label (codes " of ") s.whole ++ with_label (codes " entries (") (percent_of s.done s.whole) ++ codes " %)"
     ++ with_label (codes ", ") s.seconds ++ codes " s" ++ left_text s.left
 
--- What is told: how much there is to do, `progress: N entries, about M MB of memory`; the wave of a
--- pair that begins; how many entries are done in the midst of a pair; the pair that is done;
--- nothing, in the place of what a terminal shows.
+-- A progress event: how much there is to do, `progress: N entries, about M MB of memory`; the wave
+-- of a pair that begins; how many entries are done in the midst of a pair; the pair that is done;
+-- nothing, in place of what a terminal shows.
 abbrev pub event_text : ProgressEvent → List ℕ
 event_text (event.Whole entries megabytes) =
     with_label (codes "progress: ") entries ++ with_label (codes " entries, about ") megabytes ++ codes " MB of memory"
@@ -45,19 +45,19 @@ event_text (event.Part greater lesser so_far) = codes "progress: " ++ stones_tex
 event_text (event.Done greater lesser so_far) = codes "progress: " ++ stones_text greater lesser ++ codes " done" ++ so_far_text so_far
 event_text event.Cleared = []
 
--- what a terminal shows until something takes its place
+-- what a terminal shows only until something takes its place
 abbrev pub is_passing : ProgressEvent → Bool
 is_passing (event.Whole entries megabytes) = false
 is_passing (event.Done greater lesser so_far) = false
 is_passing _ = true
 
--- As a line: on a terminal in the place of the one at which it is, of which the rest is cleared,
--- and without a line feed where it is to be replaced itself.
+-- As a line: on a terminal it takes the place of the line before it, whose end is cleared, and has
+-- no line feed where another line is to take its own place.
 abbrev pub event_line : Bool → ProgressEvent → List ℕ
 event_line false n = event_text n ++ (10 ∷ [])
 event_line true n = (13 ∷ []) ++ event_text n ++ (27 ∷ codes "[K") ++ (if is_passing n then [] else 10 ∷ [])
 
--- ---- what was told
+-- ---- what was reported
 
 -- Others follow a line only where no write of it failed, by the number of those that have failed
 -- before and after it.
@@ -73,7 +73,7 @@ module _ {E : Type 0} (contents : E → Option (List ℕ)) (failures : E → ℕ
   HasReported old new (n ∷ rest) =
       (midway : E) × ReportsText contents failures old midway (event_line rewrites n) × GoesOn (failures old) (failures midway) rest × HasReported midway new rest
 
-  -- some lines were told, and at most one write failed
+  -- some lines were written, and at most one write failed
   pub record Reports (old new : E) : Type 0 where
     pub lines : List ProgressEvent
     pub reported : HasReported old new lines
@@ -86,21 +86,21 @@ IsWholeFirst [] = ⊤
 IsWholeFirst (event.Whole entries megabytes ∷ rest) = ⊤
 IsWholeFirst (n ∷ rest) = ⊥
 
--- such lines were told
+-- such lines were written
 abbrev pub ReportsInOrder : {E : Type 0} → (E → Option (List ℕ)) → (E → ℕ) → Bool → E → E → Type 0
 ReportsInOrder contents failures rewrites old new = (reports : Reports contents failures rewrites old new) × IsWholeFirst reports.lines
 
--- ---- who tells
+-- ---- what reports them
 
--- by what name the proofs know the borrow of the sink that is told
+-- by what name the proofs know the borrow of the sink that the lines go to
 abbrev pub lent_of : {R E : Type 0} → ProgressPrinter R E → GName
 lent_of p = p.errors.ghost_name
 
--- the sink that is told
+-- the sink that the lines go to
 abbrev pub sink_of : {R E : Type 0} → ProgressPrinter R E → E
 sink_of p = p.errors.now
 
--- whether it is told anything
+-- whether anything is reported on it
 abbrev pub reports_of : {R E : Type 0} → ProgressPrinter R E → Bool
 reports_of p = p.reports
 
@@ -126,7 +126,7 @@ at_work_of p = counts p.greater p.lesser
 abbrev pub part_of : {R E : Type 0} → ProgressPrinter R E → ℕ
 part_of p = p.part
 
--- who tells, as far as the sink and its lines show
+-- the state of a progress printer, as far as the sink and its lines show it
 pub record ProgressState (E : Type 0) : Type 0 where
   pub lent : GName
   pub sink : E
@@ -145,16 +145,16 @@ progress_state_of p = record {
   whole = whole_of p;
 }
 
--- The lines of who begins to tell: first how much there is to do, of as many entries as there are;
--- none before that is known, or where nothing is told any more.
+-- The lines of a progress printer that begins: first how much there is to do, of as many entries as
+-- there are; none before that is known, or where nothing is reported any more.
 abbrev pub BeginsWithWhole : Bool → Bool → ℕ → List ProgressEvent → Type 0
 BeginsWithWhole has_begun reports whole [] = has_begun ≡ true → reports ≡ false
 BeginsWithWhole has_begun reports whole (event.Whole entries megabytes ∷ rest) = (has_begun ≡ true) × (entries ≡ whole)
 BeginsWithWhole has_begun reports whole (n ∷ rest) = ⊥
 
 module _ {E : Type 0} (contents : E → Option (List ℕ)) (failures : E → ℕ) where
-  -- What telling makes of who tells: of the same sink, which was told some lines, or nothing where
-  -- it isn't told anything. Nothing more is told after a write that failed, and nothing before how
+  -- What reporting does to the state: on the same sink, some lines were written, or nothing where
+  -- nothing is reported. Nothing more is written after a write that failed, and nothing before how
   -- much there is to do, which stays what it is once it is known.
   pub record Continues (old new : ProgressState E) : Type 0 where
     pub same : new.lent ≡ old.lent
@@ -168,10 +168,10 @@ module _ {E : Type 0} (contents : E → Option (List ℕ)) (failures : E → ℕ
   abbrev pub Becomes : {R : Type 0} → ProgressPrinter R E → ProgressPrinter R E → Type 0
   Becomes old new = Continues (progress_state_of old) (progress_state_of new)
 
-  -- What telling one of the news makes of who tells: what it was, where it isn't told anything or
-  -- it isn't known how much there is to do. Else its line went out, or its first bytes up to the
-  -- write that failed, and more is told only where it went out; or nothing more is told where the
-  -- sink has no room for a failure more.
+  -- What reporting one event does to the state: nothing, where nothing is reported or it isn't
+  -- known how much there is to do. Else its line went out, or its first bytes up to the write that
+  -- failed, and more is reported only where it went out; or nothing more is reported where the sink
+  -- has no room to count one more failure.
   pub record Speaks (old new : ProgressState E) (n : ProgressEvent) : Type 0 where
     pub same : new.lent ≡ old.lent
     pub rewrites : new.rewrites ≡ old.rewrites
@@ -184,8 +184,8 @@ module _ {E : Type 0} (contents : E → Option (List ℕ)) (failures : E → ℕ
         → (sent : Result (Unit {0}) ℕ) × WentOut (contents old.sink) (contents new.sink) (event_line old.rewrites n) sent
         × CountsFailure (failures old.sink) (failures new.sink) sent × (new.reports ≡ is_ok sent)
 
--- Whoever tells anything writes this line, or its first bytes up to the write that failed, where
--- the sink has room for a failure more and for one after it.
+-- Where anything is reported, this line is written, or its first bytes up to the write that failed,
+-- if the sink has room to count one more failure and another one after it.
 abbrev pub ReportsLine : {R E : Type 0} → (E → Option (List ℕ)) → (E → ℕ) → ProgressPrinter R E → ProgressPrinter R E → ProgressEvent → Type 0
 ReportsLine contents failures old new n =
     reports_of old ≡ true → failures (sink_of old) < 2 ^ 64 - 3 → ReportsText contents failures (sink_of old) (sink_of new) (event_line (rewrites_of old) n)

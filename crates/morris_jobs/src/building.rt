@@ -1,4 +1,4 @@
-//! The tables that are asked for, and how one of them after the other is built or verified.
+//! What to build, and how the tables are built or verified, one after the other.
 ghost use Rattle.std.specs.Prelude.{◌≡◌, ◌≢◌, None, true, false, IfErr, IfOk, OnOk};
 ghost use Rattle.morris_index.specs.Pairs.{Counts};
 ghost use Rattle.morris_pairs.specs.Building.{IsBuilt};
@@ -23,20 +23,20 @@ use morris_workers::OpenGate;
 use std::sync::Wait;
 use std::thread::Threads;
 
-/// The tables that are asked for, and by whom they are to be built.
+/// Which tables to build, and by how many workers over how many blocks.
 #[derive(Clone, Copy, Debug)]
 pub struct BuildArgs<'a> {
     /// The name of the board.
     pub board: &'a str,
-    /// The text of the pair, whose table comes after those of all pairs below it.
+    /// The pair, such as `4-3`. Its table comes after those of all pairs below it.
     pub pair: &'a str,
-    /// How many workers there are to be.
+    /// How many workers there are.
     pub workers: usize,
-    /// Into how many blocks the entries of each pair are to be cut.
+    /// How many blocks the entries of each pair are divided into.
     pub blocks: usize,
 }
 
-/// The layout of the tables, by whether entries for classes are asked for.
+/// The layout of the tables: by classes where that is asked for, else full.
 pub fn layout_of(classes: bool) -> Layout
     ensures { result ≡ layout_for classes }
 {
@@ -47,7 +47,7 @@ pub fn layout_of(classes: bool) -> Layout
     }
 }
 
-/// Lets the tables go that neither this pair needs nor any after it, unless all are to be kept.
+/// Drops the tables that neither this pair nor any after it needs, unless all are to be retained.
 pub fn drop_unneeded<B: Geometry>(tables: &mut TableSet<B>, all: bool, pair: Pair<B>)
     ensures near { ArePruned tables.old tables.new pair }
     ensures all { all ≡ true → (c : Counts) → table_on tables.new c ≡ table_on tables.old c }
@@ -58,7 +58,7 @@ pub fn drop_unneeded<B: Geometry>(tables: &mut TableSet<B>, all: bool, pair: Pai
     }
 }
 
-/// Builds the table of a pair in a layout over a set of tables that has those that it needs.
+/// Builds the table of a pair in a layout from the tables that it needs, which `tables` has.
 pub fn build_over<B: Board, R: Threads + Wait + Sync, T: Progress>(
     context: Context<'_, R>,
     tables: &TableSet<B>,
@@ -85,7 +85,8 @@ pub fn build_over<B: Board, R: Threads + Wait + Sync, T: Progress>(
     Ok(table)
 }
 
-/// Puts the table of a pair in a layout into a set of tables that has those that it needs.
+/// Builds the table of a pair in a layout from the tables that it needs, which `tables` has, and
+/// adds it to them.
 pub fn build_onto<B: Board, R: Threads + Wait + Sync, T: Progress>(
     context: Context<'_, R>,
     tables: &mut TableSet<B>,
@@ -105,13 +106,13 @@ pub fn build_onto<B: Board, R: Threads + Wait + Sync, T: Progress>(
     Ok(())
 }
 
-/// The table that was read of a file, once each of its entries is known to be right over a set of
-/// tables. The workers share the entries out among them.
+/// Verifies a table that was read: it is returned as exact once each of its entries is known to be
+/// right by the tables that it needs. The workers divide the entries among themselves.
 ///
 /// # Errors
-/// [`Fault::Needs`] with the first pair whose table the table's pair needs and that isn't there,
-/// else [`Fault::Differs`] with the index of the first entry that isn't what the rules give from
-/// the entries of its results.
+/// [`Fault::Needs`] with the first pair that the table's pair needs and that has no table in
+/// `tables`, else [`Fault::Differs`] with the index of the first entry that isn't what the rules
+/// give from the entries of its results.
 pub fn verify_over<B: Board, R: Threads + Sync, T: Progress>(
     context: Context<'_, R>,
     tables: &TableSet<B>,

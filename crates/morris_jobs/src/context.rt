@@ -1,4 +1,4 @@
-//! Who builds.
+//! What a build runs with: threads, memory, workers and blocks.
 ghost use Rattle.std.specs.Prelude.{◌≡◌, None, Some, MatchResult, option_map};
 ghost use Rattle.morris_workers.specs.Ranges.{range_fault};
 ghost use Rattle.morris_jobs.specs.Faults.{solve_fault};
@@ -7,7 +7,7 @@ use crate::fault::Fault;
 use morris_workers::check_numbers;
 use std::alloc::Global;
 
-/// How many workers build, over how many blocks: no more than there may be.
+/// How many workers build, and over how many blocks; both in range.
 #[derive(Clone, Copy, Debug, PartialEq, Eq)]
 pub struct Parallelism {
     /// 1 to 64.
@@ -32,13 +32,14 @@ impl Parallelism {
     }
 }
 
-/// A team at work: what starts its threads, and the memory that is taken.
+/// What a build runs with: the runtime that starts its threads, the allocator, and how many workers
+/// and blocks there are.
 #[derive_where(Clone, Copy)]
 pub struct Context<'a, R> {
-    /// What starts the threads.
+    /// The runtime, which starts the threads.
     pub rt: &'a R,
-    /// From where memory is taken.
+    /// The allocator.
     pub alloc: Global,
-    /// How many workers there are, over how many blocks.
+    /// How many workers and blocks there are.
     pub parallelism: Parallelism,
 }

@@ -17,9 +17,9 @@ use std::alloc::Global;
 /// How `stats` prints what it counts.
 #[derive(Clone, Copy, Debug, PartialEq, Eq)]
 pub enum Form {
-    /// As lines of text.
+    /// As lines of plain text.
     Text,
-    /// As lines of text, with the deepest positions below them.
+    /// As lines of plain text, with the deepest positions below them.
     Deepest,
     /// As lines of fields with commas between them.
     Csv,
@@ -35,7 +35,7 @@ pub struct Tallied<B: Geometry> {
 }
 
 impl<B: Geometry> Tallied<B> {
-    /// Those of the pair of these entries, each of which counts for all positions that have it.
+    /// The counts of the pair of these entries: each entry counts for its whole orbit.
     ///
     /// # Errors
     /// Those of [`Entries::tally`].
@@ -60,15 +60,15 @@ impl<B: Geometry> Tallied<B> {
 pub struct Halves<B: Geometry> {
     /// The pair.
     pub pair: Pair<B>,
-    /// How many positions have the codes 0, 1, .., where the player to move has the lesser number
-    /// of stones; none, where the numbers are the same.
+    /// How many positions have the codes 0, 1, .., among those whose player to move has the smaller
+    /// number of stones; none where the two numbers are the same.
     pub lesser: Vec<u64>,
-    /// The same where the player to move has the greater number.
+    /// The same for the larger number of stones.
     pub greater: Vec<u64>,
 }
 
 impl<B: Geometry> Halves<B> {
-    /// Those of the pair of these entries, each of which counts for all positions that have it.
+    /// The counts of the pair of these entries: each entry counts for its whole orbit.
     ///
     /// # Errors
     /// Those of [`Entries::tally`].

@@ -1,11 +1,12 @@
-//! About how long the rest of a command takes.
+//! About how much longer a command takes.
 use morris_board::board::Geometry;
 use morris_index::pair::Pair;
 
-/// What an entry of a pair takes to find, in nanoseconds of a processor: by the greater number of
-/// stones, 3 to 9, and in each row by the lesser one. Only the ratios matter. Measured by classes,
-/// pair by pair up to 7-5 and by what whole builds took up to 8-6, with 8-3 and 7-6 like their
-/// neighbours; 7-7 is taken to be like 7-6, and pairs beyond 8-6 like those of 8 stones.
+/// What it takes to find an entry of a pair, in nanoseconds of one processor: a row for each larger
+/// number of stones, 3 to 9, and in it a column for each smaller one. Only the ratios matter.
+/// Measured by classes, pair by pair up to 7-5 and by the times of whole builds up to 8-6, with 8-3
+/// and 7-6 taken to be like their neighbours, 7-7 like 7-6, and pairs beyond 8-6 like those of 8
+/// stones.
 const WEIGHTS: [[u16; 7]; 7] = [
     [1200, 0, 0, 0, 0, 0, 0],
     [100, 20, 0, 0, 0, 0, 0],
@@ -38,7 +39,8 @@ pub(crate) struct Estimate {
 }
 
 impl Estimate {
-    /// Of so much work, of which none is done. Entries are verified until a pair begins.
+    /// An estimate for so much work, of which none is done. Entries are verified until a pair
+    /// begins.
     pub(crate) fn new(work: u64) -> Estimate {
         Estimate {
             work,
@@ -53,8 +55,8 @@ impl Estimate {
         self.weight = weight;
     }
 
-    /// So many entries of the pair at work are verified, so many milliseconds after the start.
-    /// Where it is none, nothing is known of them: it is also told while a pair is built.
+    /// So many entries of the pair at work are verified, so many milliseconds after the start. A
+    /// report of 0 says nothing: one comes while a pair is built, too.
     pub(crate) fn note_verified(&mut self, entries: u64, passed: u64) {
         if entries > 0 {
             self.weight = VERIFIED;
@@ -71,7 +73,7 @@ impl Estimate {
         }
     }
 
-    /// The pair at work is done, which has so many entries.
+    /// The pair at work, which has so many entries, is done.
     pub(crate) fn end(&mut self, entries: u64, passed: u64) {
         self.part(entries, passed);
         self.done = self.done_with(entries);

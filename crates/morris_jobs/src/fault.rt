@@ -27,10 +27,10 @@ const NO_TERMINAL: &str = "a table isn't for a terminal: add --into FOLDER or > 
 /// and a text.
 #[derive(Clone, Copy, Debug, PartialEq, Eq)]
 pub enum Fault {
-    /// The text of a position hasn't one character per point of the board.
+    /// A position string hasn't one character for each point of the board.
     Length,
-    /// The first character of a position's text that is none of `X`, `O` and `.` stands at this
-    /// place, counted from 0.
+    /// The first character of a position string that is none of `X`, `O` and `.`: where it stands,
+    /// counted from 0.
     Character(usize),
     /// A player has a number of stones that no position has.
     Stones,
@@ -49,8 +49,8 @@ pub enum Fault {
     Workers,
     /// Memory was refused.
     Memory,
-    /// The table of the pair of these numbers of stones, the greater one first, is needed and isn't
-    /// there.
+    /// The table of the pair with these numbers of stones, the larger one first, is needed and
+    /// missing.
     Needs(u8, u8),
     /// The entry with this index is the first that isn't what the rules give from the entries of
     /// its results.
@@ -75,26 +75,26 @@ pub enum Fault {
     Write(u64),
     /// There is no board of that name.
     Board,
-    /// A text isn't that of a pair: a digit, a hyphen and a digit.
+    /// A text doesn't name a pair: that takes a digit, a hyphen and a digit.
     PairText,
-    /// A text isn't that of a value that positions may be asked for by.
+    /// A text doesn't name values by which positions can be found.
     ValueText,
     /// The input has more than 64 table files.
     TooMany,
     /// The folder can't be made.
     Folder,
-    /// The file of the pair of these numbers of stones, the greater one first, can't be written.
+    /// The file of the pair with these numbers of stones, the larger one first, can't be written.
     Unwritten(u8, u8),
-    /// The file of the pair of these numbers of stones, the greater one first, can't be opened.
+    /// The file of the pair with these numbers of stones, the larger one first, can't be opened.
     Unopened(u8, u8),
-    /// The file of the pair of these numbers of stones, the greater one first, has the table of
+    /// The file of the pair with these numbers of stones, the larger one first, has the table of
     /// another pair.
     OtherPair(u8, u8),
     /// The folder has no table file.
     NoFiles,
     /// So many lines of the input have no answer.
     Unanswered(u64),
-    /// The file of digests can't be written.
+    /// The list of digests can't be written.
     Digests,
     /// Another build is at work in the folder.
     Busy,
@@ -106,7 +106,7 @@ pub enum Fault {
     Unlocked,
     /// A table would go to a terminal.
     Terminal,
-    /// The file of the pair of these numbers of stones, the greater one first, has this flaw.
+    /// The file of the pair with these numbers of stones, the larger one first, has this flaw.
     InFile(u8, u8, Flaw),
 }
 
@@ -118,7 +118,7 @@ impl Fault {
         self.number_and_text().0
     }
 
-    /// The number of the fault, and its words without the file in which it was met.
+    /// The number of the fault, and its text, which doesn't say in which file it was met.
     pub fn number_and_text(&self) -> (u8, Words)
         ensures number { result.0 ≡ fault_number self.now }
         ensures text { words_of result.1 ≡ own_text self.now }
@@ -130,7 +130,7 @@ impl Fault {
         }
     }
 
-    /// The same of a fault that isn't a flaw without its file.
+    /// The same, for a fault that isn't a flaw without its file.
     fn own(&self) -> (u8, Words)
         requires { flaw_in self.now ≡ None }
         ensures number { result.0 ≡ fault_number self.now }
@@ -196,8 +196,8 @@ impl Fault {
         }
     }
 
-    /// The fault as it is told where it was met in the file of this pair: a flaw says of which file
-    /// it is, and any other fault is told as it is.
+    /// The fault as it is reported where it was met in the file of this pair: a flaw says in which
+    /// file it is, and any other fault stays as it is.
     pub fn in_file<B: Geometry>(self, pair: Pair<B>) -> Fault
         ensures { result ≡ in_file pair self }
     {
@@ -208,8 +208,8 @@ impl Fault {
     }
 }
 
-/// The fault of the same name as a refusal, with what that holds; or that of a refusal within it,
-/// after `from`.
+/// The fault of the same name as a refusal, with the number that it holds; or the fault of the
+/// refusal within it, after `from`.
 macro_rules! same_fault {
     ($refused:expr, $refusals:ident: $($name:ident $(($held:ident))?),+ $(,)? $(; from $inner:ident)?) => {
         match $refused {

@@ -1,10 +1,10 @@
 //! About how much memory it takes to make the table of a pair.
 //!
-//! It is summed up from what is kept at once: the entries of the blocks, the lists of those that
-//! come due by captures, what the workers hold of the blocks that they are at, and the tables of
-//! the pairs that captures lead to; or, where that is more, what puts codes of rows into the order
-//! of the entries. Only how many entries come due by captures, and how many of a block are fresh at
-//! one wave, are estimates: they are counts of the usual board.
+//! It is the sum of all that is in memory at once: the entries of the blocks, the lists of those
+//! that captures decide, what the workers hold of the blocks that they work on, and the tables of
+//! the pairs that captures lead to; or, where that is more, what it takes to put the codes of rows
+//! into the order of the entries. Only two numbers are estimates, taken from counts on the usual
+//! board: how many entries captures decide, and how many entries of a block are fresh at one wave.
 ghost use Rattle.std.specs.Prelude.{◌^◌, ◌<◌, ◌≤◌};
 
 use crate::context::Parallelism;
@@ -17,23 +17,23 @@ use morris_table::building::is_by_rows;
 /// Bytes of the program itself.
 pub(crate) const BASE: u64 = 5_000_000;
 
-/// Bytes of a worker: its thread, the batches of the piece at which it is, and the lists that it
-/// keeps from one piece to the next.
+/// Bytes of a worker: its thread, the batches of the piece that it works on, and the lists that it
+/// uses again for the next piece.
 const WORKER: u64 = 700_000;
 
 /// Bytes of an entry of a table: its code.
 pub(crate) const CODE: u64 = 2;
 
-/// Bytes of a set of stones of a table by classes: 8 for the class that it is led to, and 1 for its
-/// part of what is kept of a class, which are 12 for some 16 sets.
+/// Bytes of a set of stones of a table by classes: 8 for its class, and 1 for its part of what
+/// there is for each class, which is 12 bytes for some 16 sets.
 const SET: u64 = 9;
 
 /// Bytes of an entry of the pair that is built: its code, and a counter of the results that it
 /// waits for. Both have a byte while no depth is above 254.
 const OPEN: u64 = 2;
 
-/// Bytes of an entry that captures decide, in the list of its wave: how far it is from the one
-/// before.
+/// Bytes of an entry that captures decide, in the list of its wave: its distance from the entry
+/// before it.
 const GAP: u64 = 2;
 
 /// Bytes of an entry that its block has just decided, or in a batch that one block sends to
@@ -41,18 +41,18 @@ const GAP: u64 = 2;
 const LISTED: u64 = 4;
 
 /// Bytes of such a number where the pair has more, in a list of a sweep, and where a worker takes
-/// it out of a block to go back from its entry.
+/// it out of a block to find its predecessors.
 const WIDE: u64 = 8;
 
-/// Bytes that a block keeps of each block, itself included: whether all is applied that comes from
+/// Bytes that a block has for each block, itself included: whether all is applied that comes from
 /// there, and from which node on.
 const SOURCE: u64 = 9;
 
-/// A list of so many bytes is given back to the system as soon as it is let go, as `./morris` sets
-/// it for the C library, which keeps shorter ones.
+/// A list of so many bytes goes back to the system as soon as it is freed, as `./morris` tells the
+/// C library, which holds on to shorter ones.
 const GIVEN_BACK: u64 = 49_152;
 
-/// A whole, in the parts in which shares are counted.
+/// How many parts a whole is counted in.
 const WHOLE: u64 = 1000;
 
 /// Bytes of a set of as many points as the side with fewer stones has, while a pair is built by
@@ -71,8 +71,8 @@ const CLOSING: [[u16; 7]; 7] = [
     [773, 739, 700, 657, 609, 556, 497],
 ];
 
-/// About how many bytes a table of a pair with so many entries takes as long as it is kept: its
-/// codes, and by classes the sets of either player's stones.
+/// About how many bytes a table of a pair with so many entries takes once it is made: its codes,
+/// and by classes the sets of either player's stones.
 pub(crate) fn bytes_of_table<B: Geometry>(pair: Pair<B>, layout: Layout, entries: u64) -> u64 {
     let codes = CODE.saturating_mul(entries);
     match layout {
@@ -84,8 +84,8 @@ pub(crate) fn bytes_of_table<B: Geometry>(pair: Pair<B>, layout: Layout, entries
     }
 }
 
-/// About how many bytes it takes at once to make the table of a pair with so many entries, beside
-/// the table itself as it is kept: by a team, or by a sweep on one thread.
+/// About how many bytes it takes at once to make the table of a pair with so many entries, apart
+/// from the table itself once it is made: in parallel, or by a sweep on one thread.
 pub(crate) fn bytes_of_making<B: Geometry>(
     pair: Pair<B>,
     layout: Layout,
@@ -94,20 +94,21 @@ pub(crate) fn bytes_of_making<B: Geometry>(
 ) -> u64 {
     let due = entries.saturating_mul(due_share(pair)) / WHOLE;
     let Some(parallelism) = parallelism else {
-        // A sweep keeps the numbers of all decided entries, and all that it keeps until the table
-        // is made. There are some five of them for two that come due by captures.
+        // A sweep has the numbers of all decided entries in memory until the table is made. There
+        // are some five of them for two that captures decide.
         let decided = (due.saturating_mul(5) / 2).min(entries);
         return entries
             .saturating_mul(OPEN)
             .saturating_add(decided.saturating_mul(WIDE));
     };
-    // For four entries that come due by captures, one more is decided by quiet moves while most of
-    // them are in a list.
+    // For every four entries that captures decide, quiet moves decide one more while most of them
+    // are in a list.
     let listed = due
         .saturating_mul(GAP)
         .saturating_add((due / 4).saturating_mul(listed_bytes(entries)));
-    // Blocks are let go as their codes are put into the table, so both are never there as a whole,
-    // unless the lists of blocks are short. Nothing is listed any more then.
+    // Each block is freed once its codes are in the table, so the blocks and the table are never
+    // there in full at the same time, unless the lists of blocks are short. Nothing is listed any
+    // more then.
     let solving = listed
         .max(bytes_retained(entries, parallelism.blocks as u64))
         .saturating_add(SOURCE * (parallelism.blocks * parallelism.blocks) as u64)
@@ -121,9 +122,9 @@ pub(crate) fn bytes_of_making<B: Geometry>(
     solving.max(anew).saturating_add(bytes_of_rows(pair))
 }
 
-/// About how many bytes of the blocks' lists the C library keeps while their codes are put into the
-/// table. A block has for each entry a code of one byte, a counter of one byte, and one byte more
-/// of room; as measured, most of that room is in use by what was kept before.
+/// About how many bytes of the blocks' lists the C library holds on to while their codes are put
+/// into the table. A block has for each entry a code of one byte, a counter of one byte, and one
+/// spare byte; as measured, most of the spare bytes hold what was there before.
 fn bytes_retained(entries: u64, blocks: u64) -> u64
     requires { 0 < blocks }
 {
@@ -134,7 +135,8 @@ fn bytes_retained(entries: u64, blocks: u64) -> u64
 }
 
 /// About how many bytes it takes to find the rows of a pair and the moves in them: a second table
-/// of the classes of the greater number's sets, and what the moves of each of the lesser one's are.
+/// of the classes of the sets of the side with more stones, and the moves of each set of the other
+/// side.
 fn bytes_of_rows<B: Geometry>(pair: Pair<B>) -> u64 {
     let classes = SET * binomial(B::POINTS, pair.greater());
     let moves = MOVES * binomial(B::POINTS, pair.lesser());
@@ -165,13 +167,13 @@ fn listed_bytes(entries: u64) -> u64 {
     if entries <= 1 << 32 { LISTED } else { WIDE }
 }
 
-/// In how many of 1,000 positions of a pair captures decide, as far as the stones tell.
+/// In how many of 1,000 positions of a pair captures decide, as far as the numbers of stones say.
 fn due_share<B: Geometry>(pair: Pair<B>) -> u64 {
     let (greater, lesser) = (pair.greater(), pair.lesser());
     (closing_share(greater, lesser) + closing_share(lesser, greater)) / 2
 }
 
-/// The same of the positions in which the player to move has `own` stones, and the other player
+/// The same of the positions in which the player to move has `own` stones, and the opponent
 /// `other`.
 fn closing_share(own: u8, other: u8) -> u64
     requires own { (3 ≤ own) × (own ≤ 9) }
@@ -188,7 +190,7 @@ fn closing_share(own: u8, other: u8) -> u64
 /// Whether most positions are won or lost in which a player has `left` stones after a capture, and
 /// the player who captured `own`. Two stones have lost, and of positions with three on either side
 /// few are drawn. Else it takes three stones more to win, and four more against three stones, which
-/// may jump; and a player who has fewer stones after a capture loses where it is by four.
+/// may jump; and a player with fewer stones after a capture loses when four behind.
 fn is_decided(own: u8, left: u8) -> bool {
     if left == 2 || (own == 3 && left == 3) {
         true

@@ -1,4 +1,4 @@
-//! Pairs as texts: those that the words of the command line name, and how one is printed.
+//! Pairs by their names on the command line, and how a pair is printed.
 ghost use Rattle.std.specs.Prelude.{◌≡◌};
 ghost use Rattle.morris_index.specs.Pairs.{pair_text};
 ghost use Rattle.morris_jobs.specs.Faults.{stones_text};

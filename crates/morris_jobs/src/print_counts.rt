@@ -1,4 +1,4 @@
-//! How many positions of a pair have each value, printed piece by piece.
+//! How many positions of a pair have each value, as it is printed.
 #![tactic(auto, using(morris_board::proofs::PrinterLaws::takes_laws))]
 
 ghost use Rattle.std.specs.Prelude.{◌≡◌, ◌≤◌, length, drop, slice_index};
@@ -99,8 +99,8 @@ impl<B: Geometry> Printed for Halves<B> {
     }
 }
 
-/// The lines of the positions with the lesser number of stones of the player to move, where it is
-/// another one than the greater.
+/// The lines of the positions whose player to move has the smaller number of stones, unless the two
+/// numbers are the same.
 fn put_lesser<B: Geometry, S: Sink>(out: &mut Printer<'_, S>, pair: Pair<B>, tallies: &[u64])
     ensures { Takes S.contents S.failures out.old out.new (csv_lesser pair tallies.now) }
 {

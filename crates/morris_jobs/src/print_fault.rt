@@ -26,7 +26,7 @@ impl Printed for Fault {
     }
 }
 
-/// A fault with its number, as a line begins that tells it: `fault N: TEXT`.
+/// A fault with its number, as its line begins: `fault N: TEXT`.
 pub fn put_fault<S: Sink>(out: &mut Printer<'_, S>, fault: Fault)
     ensures takes { Takes S.contents S.failures out.old out.new (fault_words fault) }
     ensures few { length (fault_words fault) ≤ 2 ^ 9 }
@@ -37,7 +37,8 @@ pub fn put_fault<S: Sink>(out: &mut Printer<'_, S>, fault: Fault)
     put_text(out, fault, words);
 }
 
-/// The text of a fault that has these words: they, and in which file it was met, where it says so.
+/// The text of a fault that has these words: they, and the file in which it was met, where it says
+/// so.
 fn put_text<S: Sink>(out: &mut Printer<'_, S>, fault: Fault, words: Words)
     requires own { words_of words ≡ own_text fault }
     ensures { Takes S.contents S.failures out.old out.new (fault_text fault) }
@@ -52,7 +53,7 @@ fn put_text<S: Sink>(out: &mut Printer<'_, S>, fault: Fault, words: Words)
     }
 }
 
-/// Words with their number or their pair.
+/// Words, with the number or the pair among them.
 fn put_words<S: Sink>(out: &mut Printer<'_, S>, words: Words)
     ensures { Takes S.contents S.failures out.old out.new (words_of words) }
 {

@@ -37,7 +37,8 @@ fn put_left<S: Sink>(out: &mut Printer<'_, S>, seconds: u64)
     }
 }
 
-/// How many entries are done of how many, when, and about how long the rest takes.
+/// How many entries are done, of how many, after how many seconds, and about how long the remaining
+/// ones take.
 fn put_so_far<S: Sink>(out: &mut Printer<'_, S>, so_far: SoFar)
     ensures { Takes S.contents S.failures out.old out.new (so_far_text so_far) }
 {
@@ -51,7 +52,7 @@ fn put_so_far<S: Sink>(out: &mut Printer<'_, S>, so_far: SoFar)
     put_left(out, so_far.left);
 }
 
-/// What is told, without the end of its line.
+/// A progress event, without the end of its line.
 fn put_event<S: Sink>(out: &mut Printer<'_, S>, event: ProgressEvent)
     ensures { Takes S.contents S.failures out.old out.new (event_text event) }
 {
@@ -95,7 +96,7 @@ fn put_event<S: Sink>(out: &mut Printer<'_, S>, event: ProgressEvent)
     }
 }
 
-/// The line of one of the news.
+/// The line of a progress event.
 impl Printed for Line {
     ghost use Rattle.morris_jobs.specs.Progress.{event_line};
 

@@ -1,4 +1,4 @@
-//! Who is told how far a command is.
+//! What a command reports its progress to.
 ghost use Rattle.std.specs.Prelude.{◌≡◌, Bool, false};
 
 use crate::size::{Plan, Size};
@@ -8,22 +8,22 @@ use morris_pairs::exact::Exact;
 use morris_pairs::layout::Layout;
 use morris_workers::{NoProgress, Watch};
 
-/// Is told how far a command is: how much there is to do, the pairs that begin and end, and as a
-/// [`Watch`] the waves between.
+/// What a command reports its progress to: how much there is to do, the pairs that begin and end,
+/// and as a [`Watch`] the waves between.
 pub trait Progress: Watch {
-    /// Whether anyone is told anything.
+    /// Whether anything is reported.
     ghost is_reported: { Self → Bool };
 
-    /// Whether anyone is told anything. Where nobody is, nobody has to find out how much there is
-    /// to do.
+    /// Whether anything is reported. Where nothing is, nobody has to find out how much there is to
+    /// do.
     fn is_reported(&self) -> bool
         ensures { result ≡ is_reported self.now };
 
-    /// So much is to be done in all. It may be told again.
+    /// So much is to be done in all. It may be reported again.
     fn start_with_size(&mut self, size: Size)
         ensures reported { Self.becomes self.old self.new };
 
-    /// The tables of all pairs below a pair are to come about in this way. It may be told again.
+    /// The tables of all pairs below a pair are to be made by this plan. It may be reported again.
     fn start<B: Geometry>(&mut self, pair: Pair<B>, layout: Layout, plan: Plan)
         ensures reported { Self.becomes self.old self.new };
 
@@ -36,7 +36,7 @@ pub trait Progress: Watch {
         ensures reported { Self.becomes self.old self.new };
 }
 
-/// Nobody is told.
+/// Reports nothing.
 impl Progress for NoProgress {
     ghost is_reported = { λ _. false };
 

@@ -1,4 +1,4 @@
-//! How far a command is, told line by line.
+//! Progress, line by line.
 ghost use Rattle.std.specs.Prelude.{◌≡◌, ℕ, ◌-◌, ◌^◌, ◌<◌, true, false, length, max};
 ghost use Rattle.morris_jobs.specs.Progress.{Becomes, CountsMore, MayReport, Speaks, ReportsLine, at_work_of, has_begun_of, is_passing, lent_of, part_of, rewrites_of, sink_of, progress_state_of, reports_of};
 ghost use Rattle.morris_jobs.specs.Sizes.{entries_below};
@@ -15,7 +15,7 @@ use morris_pairs::layout::Layout;
 use morris_workers::Watch;
 use std::time::{Clock, Instant};
 
-/// One thing that is told.
+/// What a line reports.
 #[derive(Clone, Copy, Debug)]
 pub enum ProgressEvent {
     /// Before all else: how many entries there are in all, and about how many megabytes of memory
@@ -43,12 +43,12 @@ pub enum ProgressEvent {
         lesser: u8,
         so_far: SoFar,
     },
-    /// Nothing, in the place of what a terminal shows.
+    /// Nothing, in place of what a terminal shows.
     Cleared,
 }
 
 impl ProgressEvent {
-    /// Whether a terminal shows it until something takes its place.
+    /// Whether a terminal shows it only until something takes its place.
     pub(crate) fn is_passing(&self) -> bool
         ensures { result ≡ is_passing self.now }
     {
@@ -60,7 +60,7 @@ impl ProgressEvent {
     }
 }
 
-/// One of the news as a line, which on a terminal takes the place of the last one.
+/// A progress event as a line, which on a terminal takes the place of the last one.
 #[derive(Clone, Copy)]
 pub(crate) struct Line {
     pub(crate) event: ProgressEvent,
@@ -80,11 +80,11 @@ pub struct SoFar {
     pub left: u64,
 }
 
-/// Tells on a sink how far a command is, a line at a time, or nothing where nobody asked.
+/// Reports the progress of a command on a sink, one line at a time, or nothing where nobody asked.
 ///
 /// A line of a wave or of entries comes at most once a second; one of a pair that is done always.
-/// On a terminal each takes the place of the last one, unless that tells how much there is to do or
-/// that a pair is done. After a line that couldn't be written nothing more is told, and nothing
+/// On a terminal each takes the place of the last one, unless that says how much there is to do or
+/// that a pair is done. After a line that couldn't be written nothing more is reported, and nothing
 /// else changes.
 #[derive(Drop)]
 pub struct ProgressPrinter<'a, R, E> {
@@ -92,9 +92,9 @@ pub struct ProgressPrinter<'a, R, E> {
     errors: &'a mut E,
     reports: bool,
     rewrites: bool,
-    // Nothing where the clock can't be read: then all is told at second 0.
+    // `None` where the clock can't be read: then everything is reported at second 0.
     began: Option<Instant>,
-    // When the last line of a pair was told: of a wave, of its entries or of its end.
+    // When the last line of a pair was written: of a wave, of its entries or of its end.
     last_second: u64,
     has_begun: bool,
     // The pair that is at work.
@@ -109,8 +109,8 @@ pub struct ProgressPrinter<'a, R, E> {
 }
 
 impl<'a, R: Clock, E: Sink> ProgressPrinter<'a, R, E> {
-    /// Who tells on `errors`, if it is wanted, with the seconds from now on by `clock`. `rewrites`
-    /// says that it is a terminal.
+    /// A printer on `errors`, which reports if that is wanted; seconds are counted from now on by
+    /// `clock`. `rewrites` says that `errors` is a terminal.
     pub fn new(
         clock: &'a R,
         wanted: bool,
@@ -140,7 +140,7 @@ impl<'a, R: Clock, E: Sink> ProgressPrinter<'a, R, E> {
         }
     }
 
-    /// Clears what a terminal still shows. Nothing is to be told after that.
+    /// Clears what a terminal still shows. Nothing may be reported after that.
     pub fn clear(&mut self)
         ensures reported { Becomes E.contents E.failures self.old self.new }
         ensures line { rewrites_of self.old ≡ true → has_begun_of self.old ≡ true → ReportsLine E.contents E.failures self.old self.new ProgressEvent.Cleared }
@@ -175,7 +175,7 @@ impl<'a, R: Clock, E: Sink> ProgressPrinter<'a, R, E> {
         }
     }
 
-    /// Tells one of the news, and nothing more after a write that failed. Nothing is told before it
+    /// Reports an event, and nothing more after a write that failed. Nothing is reported before it
     /// is known how much there is to do.
     fn report(&mut self, event: ProgressEvent)
         ensures reported { Speaks E.contents E.failures (progress_state_of self.old) (progress_state_of self.new) event }
@@ -196,7 +196,7 @@ impl<'a, R: Clock, E: Sink> ProgressPrinter<'a, R, E> {
         self.reports = send(&line, self.errors).is_ok();
     }
 
-    /// Tells one of the news of this second, where none was told in it.
+    /// Reports an event of this second, unless one of this second was reported before.
     fn report_in_time(&mut self, event: ProgressEvent, second: u64)
         ensures reported { Becomes E.contents E.failures self.old self.new }
         ensures part { part_of self.new ≡ part_of self.old }
@@ -210,7 +210,7 @@ impl<'a, R: Clock, E: Sink> ProgressPrinter<'a, R, E> {
     }
 }
 
-/// Each line is told once it is known how much there is to do.
+/// Each line is written once it is known how much there is to do.
 impl<'a, R: Clock, E: Sink> Progress for ProgressPrinter<'a, R, E> {
     ghost is_reported = { λ progress. reports_of progress };
 
@@ -219,7 +219,8 @@ impl<'a, R: Clock, E: Sink> Progress for ProgressPrinter<'a, R, E> {
         self.reports
     }
 
-    /// Tells how much there is to do, unless it was told before. Nothing is told before this.
+    /// Reports how much there is to do, unless that was reported before. Nothing is reported before
+    /// this.
     fn start_with_size(&mut self, size: Size)
         ensures reported { Becomes E.contents E.failures self.old self.new }
         ensures first { has_begun_of self.old ≡ false
@@ -241,8 +242,8 @@ impl<'a, R: Clock, E: Sink> Progress for ProgressPrinter<'a, R, E> {
         self.report(ProgressEvent::Whole { entries, megabytes });
     }
 
-    /// Tells how much there is to do where the tables of all pairs below a pair come about in this
-    /// way, unless it was told before. It takes no memory.
+    /// Reports how much there is to do where the tables of all pairs below a pair are made by this
+    /// plan, unless that was reported before. It takes no memory.
     fn start<B: Geometry>(&mut self, pair: Pair<B>, layout: Layout, plan: Plan)
         ensures reported { Becomes E.contents E.failures self.old self.new }
         // As far as 64 bits hold the number of entries.
@@ -250,7 +251,7 @@ impl<'a, R: Clock, E: Sink> Progress for ProgressPrinter<'a, R, E> {
             → (megabytes : ℕ) × ReportsLine E.contents E.failures self.old self.new (ProgressEvent.Whole (entries_below B.shape B.POINTS layout pair plan) megabytes) }
         ensures again { has_begun_of self.old ≡ true → self.new ≡ self.old }
     {
-        // Nothing is counted for nobody.
+        // Nothing is counted where nothing is reported.
         if self.reports && !self.has_begun {
             self.start_with_size(Size::of(pair, layout, plan));
         }
@@ -268,7 +269,7 @@ impl<'a, R: Clock, E: Sink> Progress for ProgressPrinter<'a, R, E> {
         self.estimate.weigh(weight_of(pair));
     }
 
-    /// Tells that the pair of an exact table is done, with all entries of the table.
+    /// Reports that the pair of an exact table is done, with all entries of the table.
     fn end_pair<B: Geometry>(&mut self, table: &Exact<B>)
         ensures reported { Becomes E.contents E.failures self.old self.new }
         ensures line { has_begun_of self.old ≡ true → (so_far : SoFar) × CountsMore self.old (length table.now.codes) so_far
@@ -289,7 +290,7 @@ impl<'a, R: Clock, E: Sink> Progress for ProgressPrinter<'a, R, E> {
     }
 }
 
-/// Waves and entries are told at most once a second.
+/// Waves and entries are reported at most once a second.
 impl<'a, R: Clock, E: Sink> Watch for ProgressPrinter<'a, R, E> {
     ghost use Rattle.std.specs.Prelude.{◌≡◌, max};
     ghost use Rattle.morris_jobs.specs.Progress.{Becomes, CountsMore, MayReport, at_work_of, part_of};
@@ -308,8 +309,7 @@ impl<'a, R: Clock, E: Sink> Watch for ProgressPrinter<'a, R, E> {
         self.report_in_time(event, so_far.seconds);
     }
 
-    /// So many entries of the pair at work are done. Where more were told of before, they still
-    /// are.
+    /// So many entries of the pair at work are done; where more were reported before, that many.
     fn entries(&mut self, done: u64)
         ensures reported { Becomes E.contents E.failures self.old self.new }
         ensures part { part_of self.new ≡ max (part_of self.old) done }

@@ -10,20 +10,20 @@ use morris_index::class_sizes::class_size;
 use morris_index::pair::Pair;
 use morris_pairs::layout::Layout;
 
-/// How the tables of a pair and of those below it come about, one after the other.
+/// How the tables of a pair and of those below it are made, one after the other.
 #[derive(Clone, Copy, Debug, PartialEq, Eq)]
 pub enum Plan {
     /// They are swept, on one thread.
     Swept,
-    /// A team builds them; `all` are kept, or only those that a pair to come needs.
+    /// They are built in parallel; `all` are retained, or only those that a later pair needs.
     Built {
         parallelism: Parallelism,
         all: bool,
     },
     /// They are read from files.
     Read,
-    /// A team builds them, of which only those are kept that a pair to come needs; the pair's own,
-    /// of so many entries, was read.
+    /// They are built in parallel, and only those are retained that a later pair needs; the pair's
+    /// own, with so many entries, was read.
     Verified {
         parallelism: Parallelism,
         entries: u64,
@@ -31,7 +31,7 @@ pub enum Plan {
 }
 
 impl Plan {
-    /// Whether tables are let go once no pair to come needs them.
+    /// Whether tables are dropped once no later pair needs them.
     fn lets_go(self) -> bool {
         match self {
             Plan::Built {
@@ -44,8 +44,8 @@ impl Plan {
     }
 }
 
-/// How many bytes the tables take that a pair may need, as far as these were made: those of pairs
-/// with as many stones, and with one less.
+/// How many bytes those tables take, of the ones made so far, that a pair may need: the tables of
+/// pairs with as many stones, and with one fewer.
 #[derive(Clone, Copy, Debug)]
 struct Near {
     stones: u8,
@@ -86,27 +86,27 @@ impl Near {
     }
 }
 
-/// So many entries, and about so many bytes of memory to find them, table by table.
+/// So many entries, and about how many bytes of memory it takes to find them, table by table.
 #[derive(Clone, Copy, Debug, PartialEq, Eq)]
 pub struct Size {
     /// The entries of all tables.
     pub entries: u64,
-    /// What they weigh, each what it takes to find or to verify.
+    /// What they weigh: the time that it takes to find or to verify each.
     pub(crate) work: u64,
-    /// About how many bytes are taken at once at most.
+    /// About the most bytes that are in use at once.
     pub bytes: u64,
 }
 
 impl Size {
-    /// Of no table.
+    /// The size of no table.
     const NONE: Size = Size {
         entries: 0,
         work: 0,
         bytes: BASE,
     };
 
-    /// With a table of so many entries more, of which each weighs so much, where so many bytes are
-    /// taken at once while it comes about.
+    /// With one more table of so many entries, of which each weighs so much, where so many bytes
+    /// are in use at once while it is made.
     fn with(self, entries: u64, weight: u64, at_once: u64) -> Size
         ensures { self.entries + entries < 2 ^ 64 → result.entries ≡ self.entries + entries }
     {
@@ -117,7 +117,8 @@ impl Size {
         }
     }
 
-    /// Of the tables of all pairs below a pair in a layout, its own among them. It takes no memory.
+    /// The size of the tables of all pairs below a pair in a layout, its own among them. It takes
+    /// no memory.
     pub fn of<B: Geometry>(pair: Pair<B>, layout: Layout, plan: Plan) -> Size
         // As far as 64 bits hold the number, of which no board needs more than 45.
         ensures { entries_below B.shape B.POINTS layout pair plan < 2 ^ 64
@@ -140,8 +141,8 @@ impl Size {
     }
 }
 
-/// How much there is to do where the tables of the files of a folder are verified in the order of
-/// pairs. A table is let go once no pair to come needs it, after the next one was read.
+/// How much there is to do where the tables of a folder's files are verified in the order of pairs.
+/// A table is dropped once no later pair needs it, after the next one was read.
 #[derive(Clone, Copy, Debug)]
 pub struct FolderSize {
     /// That of the files so far.
@@ -150,7 +151,7 @@ pub struct FolderSize {
 }
 
 impl FolderSize {
-    /// Of no file.
+    /// The size of no file.
     pub const NONE: FolderSize = FolderSize {
         size: Size::NONE,
         near: Near::NONE,
@@ -198,8 +199,8 @@ fn weight_in<B: Geometry>(pair: Pair<B>, last: Pair<B>, plan: Plan) -> u64 {
     }
 }
 
-/// About how many bytes it takes to make the table of a pair with so many entries, beside all
-/// tables that are kept, its own among them.
+/// About how many bytes it takes to make the table of a pair with so many entries, apart from all
+/// tables that are retained, its own among them.
 fn bytes_beside<B: Geometry>(pair: Pair<B>, layout: Layout, entries: u64, plan: Plan) -> u64 {
     match plan {
         Plan::Swept => bytes_of_making(pair, layout, entries, None),

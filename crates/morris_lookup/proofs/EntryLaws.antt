@@ -37,7 +37,7 @@ own_is_lesser c s of d = elim (halves_of c s of) [
   | inr b ↦ b.1
 ]
 
--- ---- lists that serve
+-- ---- lists of representatives
 
 -- they have fewer numbers than there are sets
 pub serve_few : (board : Shape) → board.points ≤ 24 → (l : Layout) (c : Counts) (greater lesser greater_class_words lesser_class_words : List ℕ) → AreListsFor board l c greater lesser greater_class_words lesser_class_words

@@ -1,4 +1,4 @@
--- Laws of where sets are led: the classes of listed representatives, and the images of one of them.
+-- Laws of class words: the classes of listed representatives, and the images of one of them.
 use Rattle.std.proofs.Common.{◌≡◌, ◌≢◌, ℕ, zero, suc, ◌+◌, ◌*◌, ◌/◌, ◌%◌, ◌^◌, ◌<◌, ◌≤◌, Bool, true, List, [], ◌∷◌, ◌++◌, length, get_or, set, get_or-set_other, get_or-set_same, length-append, refl, sym, ap, ◌∙◌, inl, inr, subst, arith}
 use Rattle.std.proofs.lemmas.Bool.{cases_Bool, cases_eq, cases_lt}
 use Rattle.std.proofs.lemmas.List.{get_or_append_left, get_or_push}
@@ -90,7 +90,7 @@ module _ (board : Shape) (few : board.points ≤ 24) (y : HasSymmetries board) w
   one : (s : ℕ) → s < board.symmetries → IsOneToOne board.points (board.image s) (board.image (inverse_of s))
   one s low = one_to_one board _ _ (y.symmetry s low)
 
-  -- a set whose image under s is r is the image of r under the way back
+  -- a set whose image under s is r is the image of r under the inverse of s
   pub came_from : (s set r : ℕ) → s < board.symmetries → set < 2 ^ board.points → image_of (board.image s) set ≡ r → set ≡ image_of (board.image (inverse_of s)) r
   came_from s set r low small e =
       sym (image_of-undone board.points few _ _ (one s low) set small) ∙ ap (image_of (board.image (inverse_of s))) e
@@ -124,9 +124,10 @@ pub rank_alone : (n s t : ℕ) → n ≤ 24 → s < 2 ^ n → t < 2 ^ n → coun
 rank_alone n s t low s_in t_in counts e =
     rank_outside-same n 0 (omega arith) s t s_in t_in (λ p h. has-none p) (λ p h. has-none p) counts (sym (rank_is s) ∙ e ∙ rank_is t)
 
--- ---- the images are led, symmetry by symmetry from the last one down
+-- ---- the words of the images are written, symmetry by symmetry from the last one down
 
--- Those that one of the last k symmetries leads to r have the least of these; all else is as it was.
+-- The word of each set that one of the last k symmetries brings to r has the least of these; all
+-- else is as it was.
 pub record AreCanonicalBy (board : Shape) (count start class r k : ℕ) (words old : List ℕ) : Type 0 where
   pub canonical_form : (set s : ℕ) → set < 2 ^ board.points → s < board.symmetries → board.symmetries ≤ s + k → image_of (board.image s) set ≡ r
       → ((t : ℕ) → t < s → board.symmetries ≤ t + k → image_of (board.image t) set ≡ r → ⊥)
@@ -183,7 +184,7 @@ module _ (board : Shape) (few : board.points ≤ 24) (y : HasSymmetries board) (
           get_or-set_other words (start + rank_of (members at)) i value 0 (omega (arith, less)) ∙ here.before i less;
     }
 
-  -- after all symmetries each image has the least one that leads it
+  -- after all symmetries the word of each image has the least one that brings it to r
   pub canonical_all : (words old : List ℕ) → AreCanonicalBy board count start class r board.symmetries words old → HaveClassWord board start class r words
   unfolding representative_of
   canonical_all words old here = λ set set_in is.
@@ -191,7 +192,7 @@ module _ (board : Shape) (few : board.points ≤ 24) (y : HasSymmetries board) (
       here.canonical_form set (symmetry_of board set) set_in first.within (omega arith) is
       (λ t less late e. omega (arith, first.first t less, e, is))
 
--- ---- the sets are led, class by class
+-- ---- the words of the sets are written, class by class
 
 pub record AreSetsCanonical (board : Shape) (count start class : ℕ) (words old : List ℕ) : Type 0 where
   pub canonical_form : (set : ℕ) → set < 2 ^ board.points → count_of set ≡ count → class_of board set < class

@@ -1,5 +1,5 @@
 -- Laws of lists of representatives: which of them are below a mask, the class of a set by them, and
--- how they are listed, stretch by stretch.
+-- how they are listed, chunk by chunk.
 use Rattle.std.proofs.Common.{◌≡◌, ℕ, zero, suc, ◌+◌, ◌-◌, ◌^◌, ◌<◌, ◌≤◌, Bool, true, false, cond, ltb, List, [], ◌∷◌, ◌++◌, length, filter, get_or, take, set, get_or-set_other, get_or-set_same, length-set, refl, sym, ap, ◌∙◌, inl, inr, subst, arith, length-append, zero-add}
 use Rattle.std.proofs.lemmas.Bool.{cases_Bool, cases_eq, cases_lt, lt-ltb, ltb-true, ltb-false}
 use Rattle.std.proofs.lemmas.List.{get_or_append_left, get_or_push, get_or-append-add, get_or-take, append-nil, ext_get_or, length-take-le}
@@ -109,7 +109,7 @@ listed-join xs ys start mid end words mids old same first then =
       before = λ i h. then.before i (omega (arith, first.ends)) ∙ first.before i h;
     }
 
--- ---- the masks of a stretch are looked at one after the other
+-- ---- the masks of a chunk are tested one after the other
 
 module _ (f : ℕ → Bool) (a mask : ℕ) (from : a ≤ mask) where
   one_more : mask - a + 1 ≡ mask + 1 - a
@@ -133,7 +133,7 @@ module _ (f : ℕ → Bool) (a mask : ℕ) (from : a ≤ mask) where
     pub listed-no : f mask ≡ false → AreListed (between f a (mask + 1 - a)) start end words old
     listed-no h = subst (λ xs. AreListed xs start end words old) (sym (between-no_to h)) here
 
--- ---- stretches are listed one after the other
+-- ---- chunks are listed one after the other
 
 module _ (f : ℕ → Bool) (a n : ℕ) where
   join_at : between f 0 (a + n) ≡ between f 0 a ++ between f a n

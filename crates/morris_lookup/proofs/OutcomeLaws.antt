@@ -144,7 +144,7 @@ module _ (board : Shape) (files : Files) (s : Sides) (value : Value) where
 
 -- ---- the best moves of the game, by what each legal move leads to
 
--- a move leads to this value: that of the position after it, turned round
+-- a move leads to this value: that of the position after it, for the player who moved
 abbrev pub Leads : Shape → Sides → Outcome → Type 0
 Leads board s o = (next : Value) × IsValue board (result_of s o.step) next × (o.value ≡ value_for_mover next)
 

@@ -1,4 +1,4 @@
--- The codes of an open file, piece by piece.
+-- The codes of an open file, chunk by chunk.
 use Rattle.std.proofs.Common.{◌≡◌, ℕ, ◌+◌, ◌-◌, ◌*◌, ◌<◌, ◌≤◌, false, true, List, [], ◌∷◌, ◌++◌, length, take, drop, get_or, map, Option, None, Some, Ok, Err, option_map, sym, ap, ap₂, subst, ◌∙◌, zero-add, arith}
 use Rattle.std.specs.Prelude.{IfSome, IsSome}
 use Rattle.std.specs.Int.{w16, from_be_bytes}
@@ -28,7 +28,7 @@ within_first xs place n fits =
     ap (λ m. take 2 (drop place (take m xs))) split
     ∙ (ap (take 2) (drop-take place (n - place) xs) ∙ take-take 2 (n - place) (drop place xs) (omega arith))
 
--- where a piece begins with the bytes of so many codes, these are its codes
+-- where a chunk begins with the bytes of so many codes, these are its codes
 module _ (bytes out : List ℕ) (first many : ℕ) (read : take (2 * many) out ≡ bytes_at bytes (16 + 2 * first) (2 * many)) where
   in_chunk : (k : ℕ) → k < many → bytes_at out (2 * k) 2 ≡ bytes_at bytes (16 + 2 * (first + k)) 2
   in_chunk k low =
@@ -44,7 +44,7 @@ module _ (bytes out : List ℕ) (first many : ℕ) (read : take (2 * many) out �
       let place : first + (entry - first) ≡ entry = omega arith in
       ap (from_be_bytes w16) (in_chunk (entry - first) (omega (arith, low, less)) ∙ ap (λ i. bytes_at bytes (16 + 2 * i) 2) place)
 
--- where a read filled the first bytes of a piece with theirs
+-- where a read filled the first bytes of a chunk with theirs
 pub chunk_of : (o : Option (List ℕ)) (place first many : ℕ) (new rest : List ℕ) → place ≡ 16 + 2 * first → length new ≡ 2 * many
     → IfSome o (λ bytes. new ≡ bytes_at bytes place (length new)) → IfSome o (λ bytes. IsChunk bytes first (first + many) (new ++ rest))
 chunk_of None place first many new rest at size read = tt
@@ -52,7 +52,7 @@ chunk_of (Some bytes) place first many new rest at size read =
     let front : take (2 * many) (new ++ rest) ≡ new = ap (λ n. take n (new ++ rest)) (sym size) ∙ take-append_seam new rest in
     chunk_read bytes (new ++ rest) first many (front ∙ (read ∙ ap₂ (bytes_at bytes) at size))
 
--- nothing is in a piece before any code is read
+-- nothing is in a chunk before any code is read
 pub none_read : (n : ℕ) (o : Option (List ℕ)) (chunk : List ℕ) → (0 ≤ 0) × (0 ≤ 32768) × (0 ≤ n) × IfSome o (λ bytes. IsChunk bytes 0 0 chunk)
 none_read n None chunk = (omega arith, omega arith, omega arith, tt)
 none_read n (Some bytes) chunk = (omega arith, omega arith, omega arith, λ entry low less. absurd (omega arith))
@@ -85,7 +85,7 @@ stated_codes-file board t small =
     let inside : i < length t.codes = omega (arith, low, many) in
     get_or-map-range_with_len (code_at (file_of board t)) 0 (length t.codes) i i 0 inside (zero-add i) ∙ code_at-file board t i small inside)
 
--- the code that stands in a piece at the place of an entry is the one that the bytes state
+-- the code that stands in a chunk at the place of an entry is the one that the bytes state
 pub chunk_code : (bytes chunk : List ℕ) (first end n entry code : ℕ) → IsChunk bytes first end chunk → first ≤ entry → entry < end → end ≤ n
     → code ≡ from_be_bytes w16 (bytes_at chunk (2 * (entry - first)) 2) → code ≡ get_or (stated_codes n bytes) entry 0
 unfolding stated_codes

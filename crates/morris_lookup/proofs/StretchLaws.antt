@@ -1,4 +1,4 @@
--- Laws of stretches of masks: each set of one has its first set as a part, and is a part of its last
+-- Laws of chunks of masks: each set of one has its first set as a part, and is a part of its last
 -- one. So what these two show holds of each.
 use Rattle.std.proofs.Common.{◌≡◌, ℕ, ◌+◌, ◌-◌, ◌*◌, ◌/◌, ◌^◌, ◌<◌, ◌≤◌, true, false, ◌&&◌, eqb, sym, ap, ◌∙◌, inl, inr, ◌⊎◌, subst, arith, add-mul}
 use Rattle.std.proofs.lemmas.Bool.{cases_Bool, cases_lt, and_from, both_ways}
@@ -15,7 +15,7 @@ use Rattle.morris_board.proofs.ImageLaws.{image_within, image_of-lt, one_to_one}
 use Rattle.morris_index.specs.Classes.{is_representative, representative_of}
 use Rattle.morris_index.proofs.ClassLaws.{symmetry_first, test_count, test_other}
 
--- ---- where a stretch lies
+-- ---- where a chunk lies
 
 pub whole : (n : ℕ) → 2 ^ (n - n / 3) * 2 ^ (n / 3) ≡ 2 ^ n
 whole n = let e : (n - n / 3) + n / 3 ≡ n = omega arith in sym (pow-add 2 (n - n / 3) (n / 3)) ∙ ap (λ k. 2 ^ k) e
@@ -45,7 +45,7 @@ part_le s t each =
 wide : (n s : ℕ) → n ≤ 24 → s < 2 ^ n → s < 2 ^ 32
 wide n s few small = lt_from_points s 32 (λ p here. omega (arith, point_lt s n p small here))
 
--- ---- the sets of a stretch
+-- ---- the sets of a chunk
 
 module _ (above k i : ℕ) (low : i < 2 ^ k) where
   has_low : (p : ℕ) → p < k → has (above * 2 ^ k + i) p ≡ has i p

@@ -16,7 +16,7 @@ stated_codes n bytes = map (code_at bytes) (range_with_len 0 n)
 abbrev pub codes_in_file : Shape → OpenFile → Option (List ℕ)
 codes_in_file board file = option_map (stated_codes (entry_count board board.points file.layout file.pair)) file.held
 
--- a piece begins with the codes that bytes state from one entry on and below another
+-- a chunk begins with the codes that bytes state from one entry on and below another
 abbrev pub IsChunk : List ℕ → ℕ → ℕ → List ℕ → Type 0
 IsChunk bytes first end chunk =
     (entry : ℕ) → first ≤ entry → entry < end → from_be_bytes w16 (bytes_at chunk (2 * (entry - first)) 2) ≡ code_at bytes entry

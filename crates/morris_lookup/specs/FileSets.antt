@@ -29,11 +29,11 @@ pub record AreFiles (board : Shape) (files : Files) : Type 0 where
   pub places : length files ≡ 49
   pub right : (c : Counts) → IfSome (file_for files c) (λ file. (file.pair ≡ c) × IsOpen board file)
 
--- the open file that tells of a position, where there is one, is that of an exact table
+-- the open file of a position's pair, where there is one, is that of an exact table
 abbrev pub IsExactAt : Shape → Files → Sides → Type 0
 IsExactAt board files s = IfSome (pair_of s) (λ c. IfSome (file_for files c) (IsExactFile board))
 
--- so are those that tell of the positions after its legal moves
+-- so are those of the positions after its legal moves
 abbrev pub AreExactAfter : Shape → Files → Sides → Type 0
 AreExactAfter board files s = (m : Move) → Contains (moves_of board s) m → IsExactAt board files (result_of s m)
 

@@ -13,8 +13,8 @@ use Rattle.morris_lookup.specs.declared.records.MoveRecord.{MoveRecord}
 use Rattle.morris_lookup.specs.Records.{move_record}
 use Rattle.morris_lookup.specs.Views.{value_said}
 
--- a move with the value of the position after it, turned round: where the opponent has then lost in
--- d plies, a win in d + 1, and so on
+-- a move with the value of the position after it, for the player who moved: where the opponent has
+-- then lost in d plies, a win in d + 1, and so on
 unfoldable pub outcome_of : Shape → List (List ℕ) → Sides → Move → Result MoveRecord ViewFault
 outcome_of board files s m = result_map_both (λ next. move_record m (value_for_mover next)) (λ refusal. refusal) (value_said board files (result_of s m))
 

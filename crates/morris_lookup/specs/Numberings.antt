@@ -8,9 +8,9 @@ use Rattle.morris_lookup.specs.Representatives.{representatives_of}
 use Rattle.morris_lookup.specs.Prepared.{AreClassWords}
 use Rattle.morris_lookup.specs.declared.numbering.Numbering.{Numbering}
 
--- The lists and the words serve for a pair in a layout: in layout Classes the lists have the
--- representatives of the sets of its greater and of its lesser number of points, and the words lead
--- these sets; in layout Full the lists have nothing.
+-- The lists and the words are those for a pair in a layout: in layout Classes the lists have the
+-- representatives of the sets of its greater and of its lesser number of points, and the words are
+-- the class words of these sets; in layout Full the lists have nothing.
 abbrev pub AreListsFor : Shape → Layout → Counts → List ℕ → List ℕ → List ℕ → List ℕ → Type 0
 AreListsFor board layout.Full c greater lesser greater_class_words lesser_class_words = (greater ≡ []) × (lesser ≡ [])
 AreListsFor board layout.Classes c greater lesser greater_class_words lesser_class_words =

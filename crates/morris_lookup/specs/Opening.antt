@@ -1,5 +1,5 @@
--- What opening any bytes as the file of a pair's table gives: nothing of the codes and of the
--- digest is looked at.
+-- What opening any bytes as the file of a pair's table gives: the codes and the digest aren't
+-- checked.
 use Rattle.std.specs.Prelude.{◌≡◌, ◌≢◌, ℕ, ◌+◌, ◌*◌, ◌≤◌, nat_eq, nat_le, List, length, take, Option, Some, Result, Ok, Err, IfSome}
 use Rattle.morris_board.specs.Boards.{Shape}
 use Rattle.morris_index.specs.Pairs.{Counts, IsPair}

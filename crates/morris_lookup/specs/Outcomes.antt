@@ -20,9 +20,9 @@ value_for_mover Draw = Draw
 value_for_mover (Won depth) = Lost (suc depth)
 value_for_mover (Lost depth) = Won (suc depth)
 
--- The outcome of a move is the value of the position after it, of which the file is open, turned
--- round: the one that the files say, where their bytes are known; and the one in the game, where
--- the file that tells of it is exact.
+-- The outcome of a move is the value of the position after it, of which the file is open, for the
+-- player who moved: the one that the files say, where their bytes are known; and the one in the
+-- game, where the file of this position is exact.
 pub record IsOutcome (board : Shape) (files : Files) (s : Sides) (outcome : Outcome) : Type 0 where
   pub next : Value
   pub found : missing_file files (result_of s outcome.step) ≡ None

@@ -1,5 +1,5 @@
--- Prepared words: the representatives of the classes of sets of 3 to 9 points, and where sets of 3
--- to 6 points are led, as one list of numbers of 32 bits.
+-- Prepared words: the representatives of the classes of sets of 3 to 9 points, and the class words
+-- of sets of 3 to 6 points, as one list of numbers of 32 bits.
 use Rattle.std.specs.Prelude.{◌≡◌, ◌≢◌, ℕ, zero, suc, ◌+◌, ◌-◌, ◌*◌, ◌^◌, ◌<◌, ◌≤◌, Bool, ◌&&◌, nat_eq, nat_lt, nat_le, List, length, slice_index, take, drop, if◌then◌else◌}
 use Rattle.morris_board.specs.Boards.{Shape}
 use Rattle.morris_board.specs.Sets.{members, count_of}
@@ -8,14 +8,14 @@ use Rattle.morris_index.specs.Numbering.{rank_of}
 use Rattle.morris_index.specs.Classes.{class_of, symmetry_of, representative_of}
 use Rattle.morris_lookup.specs.Representatives.{representatives_of}
 
--- where a set is led: its class and the least symmetry that leads it to the representative, which
+-- the class word of a set: its class and the least symmetry that brings it to canonical form, which
 -- is below 16, in one number
 unfoldable pub class_word_of : Shape → ℕ → ℕ
 class_word_of board set = 16 * class_of board set + symmetry_of board set
 
 -- The words have eleven sections. The first seven have the representatives of sets of 3, 4, .. 9
--- points, in ascending order of their masks; the last four have a word for each set of 3, 4, 5 and
--- 6 points. So many each has.
+-- points, in ascending order of their masks; the last four have the class words of the sets of 3,
+-- 4, 5 and 6 points. So many each has.
 unfoldable pub section_size : Shape → ℕ → ℕ
 section_size board k = if nat_lt k 7 then length (representatives_of board (3 + k)) else choose board.points (k - 4)
 
@@ -66,17 +66,17 @@ pub record IsPreparedTo (board : Shape) (k end : ℕ) (words : List ℕ) : Type 
   pub canonical_form : (j set : ℕ) → 7 + j < k → set < 2 ^ board.points → count_of set ≡ 3 + j
       → slice_index words (start_of board (7 + j) + rank_of (members set)) ≡ class_word_of board set
 
--- each set of `count` points is led, at its rank from `start` on
+-- each set of `count` points has its class word, at its rank from `start` on
 abbrev pub HaveClassWords : Shape → ℕ → ℕ → List ℕ → Type 0
 HaveClassWords board count start words = (set : ℕ) → set < 2 ^ board.points → count_of set ≡ count
     → slice_index words (start + rank_of (members set)) ≡ class_word_of board set
 
--- each set with this representative is led to this class
+-- each set with this representative has a class word with this class
 abbrev pub HaveClassWord : Shape → ℕ → ℕ → ℕ → List ℕ → Type 0
 HaveClassWord board start class representative words = (set : ℕ) → set < 2 ^ board.points → representative_of board set ≡ representative
     → slice_index words (start + rank_of (members set)) ≡ 16 * class + symmetry_of board set
 
--- the words of the sets of `count` points with another one are the old ones
+-- the words of the sets of `count` points with another representative are the old ones
 abbrev pub OthersStay : Shape → ℕ → ℕ → ℕ → List ℕ → List ℕ → Type 0
 OthersStay board count start representative words old = (set : ℕ) → set < 2 ^ board.points → count_of set ≡ count
     → representative_of board set ≢ representative
@@ -86,7 +86,7 @@ OthersStay board count start representative words old = (set : ℕ) → set < 2 
 abbrev pub StayBefore : ℕ → List ℕ → List ℕ → Type 0
 StayBefore place words old = (i : ℕ) → i < place → slice_index words i ≡ slice_index old i
 
--- Where there are words at all, they have one for each set of `count` points, at its rank: where it
--- is led.
+-- Where there are words at all, they are the class words of the sets of `count` points, each at the
+-- rank of its set.
 abbrev pub AreClassWords : Shape → ℕ → List ℕ → Type 0
 AreClassWords board count class_words = 0 < length class_words → (choose board.points count ≤ length class_words) × HaveClassWords board count 0 class_words

@@ -8,12 +8,12 @@ use Rattle.morris_index.specs.Classes.{is_representative}
 unfoldable pub representatives_of : Shape → ℕ → List ℕ
 representatives_of board count = filter (is_representative board count) (range_with_len 0 (2 ^ board.points))
 
--- The masks of a board with n points fall into stretches: those of a stretch have the same points
+-- The masks of a board with n points are cut into chunks: those of a chunk have the same points
 -- above the least third of the board. So many each has.
 abbrev pub chunk_size : ℕ → ℕ
 chunk_size n = 2 ^ (n / 3)
 
--- the representatives in a stretch
+-- the representatives in a chunk
 unfoldable pub representatives_at : Shape → ℕ → ℕ → ℕ → List ℕ
 representatives_at board n count number = filter (is_representative board count) (range_with_len (number * chunk_size n) (chunk_size n))
 

@@ -59,7 +59,7 @@ value_said board files s = value_of_pair board files s (pair_of s)
 abbrev pub is_by_classes : List ℕ → Bool
 is_by_classes bytes = nat_eq (slice_index bytes 4) 2
 
--- the words serve a file, or files: where one is by classes, they are prepared ones
+-- the words that a file, or files, need: where one is by classes, they are prepared ones
 abbrev pub HasWordsFor : Shape → List ℕ → List ℕ → Type 0
 HasWordsFor board words bytes = is_by_classes bytes ≡ true → IsPrepared board words
 
@@ -74,10 +74,10 @@ needs_words files s = option_map_or (λ c. option_map_or is_by_classes (file_of_
 abbrev pub IsExactFile : Shape → List ℕ → Type 0
 IsExactFile board bytes = (t : Table) × IsTable board t × (bytes ≡ file_of board t)
 
--- the file that tells of a position, where there is one, is that of an exact table
+-- the file of a position's pair, where there is one, is that of an exact table
 abbrev pub IsExactAt : Shape → List (List ℕ) → Sides → Type 0
 IsExactAt board files s = IfSome (pair_of s) (λ c. IfSome (file_of_pair files c) (IsExactFile board))
 
--- so are those that tell of the positions after its legal moves
+-- so are those of the positions after its legal moves
 abbrev pub AreExactAfter : Shape → List (List ℕ) → Sides → Type 0
 AreExactAfter board files s = (m : Move) → Contains (moves_of board s) m → IsExactAt board files (result_of s m)

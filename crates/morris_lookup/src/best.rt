@@ -18,7 +18,7 @@ use morris_moves::game_move::Move;
 use morris_moves::rules::play;
 use std::alloc::Global;
 
-/// The best moves of a position, in order of from, then to, then taken: those that lead to the
+/// The best moves of a position, ordered by from, then to, then taken: those that lead to the
 /// position's own value, as the files state both. If the files of the position and of those after
 /// its legal moves are those of exact tables, they are exactly the best moves of the game, and
 /// there is one wherever there is a legal move. Two bytes are read for the position and two for

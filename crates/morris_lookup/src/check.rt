@@ -31,7 +31,7 @@ pub struct HeaderRecord {
 }
 
 /// What the header of a table file of this board says, where it and the number of bytes are right.
-/// The codes and the digest aren't looked at. For a file by classes it looks at every set of as
+/// The codes and the digest aren't checked. For a file by classes it goes through all sets of as
 /// many points as either player has stones. No memory is taken.
 ///
 /// # Errors

@@ -30,8 +30,8 @@ pub(crate) fn class_size<B: Geometry>(pair: Pair<B>, greater: &[u32], lesser: &[
     }
 }
 
-/// The entry of a position of the pair by classes, by the same lists and by words that may lead the
-/// sets of either number of points. By other lists or words it is any number.
+/// The entry of a position of the pair by classes, by the same lists and by the class words of the
+/// sets of either number of points, where there are any. By other lists or words it is any number.
 pub(crate) fn class_index<B: Geometry>(
     pair: Pair<B>,
     greater: &[u32],
@@ -67,7 +67,8 @@ fn class_half_size<B: Geometry>(list: &[u32], own: u8, other: u8) -> u64
 }
 
 /// The number of a position's entry among those with as many stones of either player, by the list
-/// of the representatives for those of the player to move and by words that may lead these.
+/// of the representatives for those of the player to move and by the class words of sets of as many
+/// points, where there are any.
 fn class_half_index<B: Geometry>(list: &[u32], class_words: &[u32], position: &Position<B>) -> u64
     requires few { length list.now < 2 ^ 32 }
     ensures value { list.now ≡ representatives_of B.shape (count_of position.now.own) → AreClassWords B.shape (count_of position.now.own) class_words.now → result ≡ class_half_index B.shape B.POINTS position.now }

@@ -1,4 +1,5 @@
-//! Where sets of few points are led: their classes and symmetries, written at their ranks.
+//! The class words of sets of few points: the class of each set and the least symmetry that brings
+//! it to canonical form, in one number, written at its rank.
 ghost use Rattle.std.specs.Prelude.{◌≡◌, ℕ, ◌+◌, ◌<◌, ◌≤◌, ◌^◌, length, slice_index, IfOk};
 ghost use Rattle.morris_board.specs.Sets.{count_of};
 ghost use Rattle.morris_index.specs.Binomials.{choose};
@@ -12,10 +13,10 @@ use morris_index::binomials::binomial;
 use morris_index::ranks::rank;
 use std::alloc::{AllocError, Global};
 
-/// The greatest number of points of sets that have a word each.
+/// The greatest number of points of sets that have class words.
 pub(crate) const MOST_WITH_WORDS: u8 = 6;
 
-/// Words that lead the sets of `count` points, of which the representatives are listed; nothing
+/// The class words of the sets of `count` points, of which the representatives are listed; nothing
 /// where the sets have more points than [`MOST_WITH_WORDS`].
 ///
 /// # Errors
@@ -42,8 +43,8 @@ pub(crate) fn class_words<B: Geometry>(
     Ok(Vec::from_slice(alloc, &words[classes..])?)
 }
 
-/// Writes where each set of `count` points is led, at its rank from `start` on. The representatives
-/// of these sets are the `classes` words from `list` on.
+/// Writes the class word of each set of `count` points, at its rank from `start` on. The
+/// representatives of these sets are the `classes` words from `list` on.
 pub(crate) fn write_class_words<B: Geometry>(
     count: u8,
     words: &mut [u32],
@@ -65,8 +66,8 @@ pub(crate) fn write_class_words<B: Geometry>(
     }
 }
 
-/// Writes where each image of a representative of sets of `count` points is led. Several symmetries
-/// may lead an image there: the least of them is written last.
+/// Writes the class word of each image of a representative of sets of `count` points. Several
+/// symmetries may bring an image back to the representative: the least of them is written last.
 fn write_images<B: Geometry>(
     count: u8,
     words: &mut [u32],

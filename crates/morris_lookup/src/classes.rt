@@ -9,10 +9,10 @@ use morris_board::board::Geometry;
 use morris_board::points::Points;
 use morris_index::ranks::rank;
 
-/// The class of a set of points, and the least symmetry that leads the set to the representative:
-/// by its word where there are words that lead all sets of as many points, and else by the list of
-/// the representatives. By other words or another list they are any class, and any symmetry of the
-/// board.
+/// The class of a set of points, and the least symmetry that brings the set to canonical form: by
+/// the class word of the set where there are words of all sets of as many points, and else by the
+/// list of the representatives. By other words or another list they are any class, and any symmetry
+/// of the board.
 pub(crate) fn class_by<B: Geometry>(
     representatives: &[u32],
     class_words: &[u32],
@@ -50,7 +50,8 @@ pub(crate) fn class_word_at(words: &[u32], place: u64) -> Option<(usize, u8)>
     Some(((*class_word / 16) as usize, (*class_word % 16) as u8))
 }
 
-/// The image of a set with the least mask, and the least symmetry that leads to it.
+/// The canonical form of a set, which is its image with the least mask, and the least symmetry that
+/// brings the set there.
 fn least_image<B: Geometry>(set: Points) -> (Points, u8)
     requires { set < 2 ^ B.POINTS }
     ensures image { result.0 ≡ representative_of B.shape set }

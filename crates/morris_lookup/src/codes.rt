@@ -14,8 +14,8 @@ use std::marker::Model;
 /// How many bytes are read at a time, at most: those of 32,768 codes.
 const CHUNK: usize = 1 << 16;
 
-/// The codes of an open file. They are read in pieces, of which one is kept: so a file that is gone
-/// through in order is read once, and takes no memory by its size.
+/// The codes of an open file. They are read in chunks, of which the last one read stays in memory:
+/// so a file that is gone through in order is read once, and takes no memory by its size.
 #[derive(Drop)]
 pub struct Codes<'a, B: Geometry, S: Storage> {
     file: &'a Opened<B, S>,
@@ -44,7 +44,7 @@ impl<'a, B: Geometry, S: Storage> Codes<'a, B, S> {
     /// The codes of a file, of which none is read yet.
     ///
     /// # Errors
-    /// [`AllocError`] where there is no room for a piece. No other call takes memory.
+    /// [`AllocError`] where there is no room for a chunk. No other call takes memory.
     pub fn new(alloc: Global, file: &'a Opened<B, S>) -> Result<Codes<'a, B, S>, AllocError>
         ensures { IfOk result (λ codes. codes ≡ file.entry.now) }
     {
@@ -73,7 +73,7 @@ impl<B: Geometry, S: Storage> Coded for Codes<'_, B, S> {
         if self.first <= entry && entry < self.end {
             return Ok(code_in(self.chunk.as_slice(), (entry - self.first) as usize));
         }
-        // Where the read fails, nothing that is in the piece counts.
+        // Where the read fails, nothing that is in the chunk counts.
         self.first = entry;
         self.end = entry;
         self.end = self.file.read_codes(entry, self.chunk.as_mut_slice())?;
@@ -81,7 +81,7 @@ impl<B: Geometry, S: Storage> Coded for Codes<'_, B, S> {
     }
 }
 
-/// The code whose bytes stand at a place of a piece, in codes.
+/// The code whose bytes stand at a place of a chunk, in codes.
 pub(crate) fn code_in(chunk: &[u8], place: usize) -> u16
     requires { 2 * place + 1 < length chunk.now }
     ensures { result ≡ from_be_bytes w16 (bytes_at chunk.now (2 * place) 2) }

@@ -1,4 +1,5 @@
-//! The steps that hold bytes against the file of a table: its header, and how many bytes it has.
+//! The steps that check whether bytes are the file of a table, by its header and by how many bytes
+//! it has.
 ghost use Rattle.std.specs.Prelude.{◌≡◌, ◌<◌, ◌^◌, length, Err, IfOk, IfErr, IfSome};
 ghost use Rattle.morris_pairs.specs.FileReading.{IsOfBytes};
 ghost use Rattle.morris_lookup.specs.Opening.{HasHeader, check_file, check_length};
@@ -11,8 +12,8 @@ use morris_pairs::header::{HEADER, Header};
 use morris_pairs::layout::Layout;
 use morris_pairs::reading::DIGEST;
 
-/// The layout and the pair that the header of bytes says, how many entries it states, and how many
-/// bytes there are.
+/// The layout and the pair that the header of bytes states, how many entries it states, and how
+/// many bytes there are.
 ///
 /// # Errors
 /// `Short` where there are fewer bytes than a header has; `Magic`, `Version`, `BoardId`, `Counts`
@@ -34,8 +35,8 @@ pub(crate) fn read_header<B: Geometry, S: Storage>(
     Ok((layout, pair, header.entries, length))
 }
 
-/// Holds how many entries a header states, and how many bytes there are, against a table of `count`
-/// entries.
+/// Checks how many entries a header states, and how many bytes there are, against a table of
+/// `count` entries.
 ///
 /// # Errors
 /// The first of `Count`, `Short` and `Trailing` that applies.

@@ -15,7 +15,7 @@ use morris_board::position::Position;
 use morris_moves::game_move::Move;
 use morris_moves::rules::{moves, play};
 
-/// Writes the legal moves of a position to the beginning of `out`, in order of from, then to, then
+/// Writes the legal moves of a position to the beginning of `out`, ordered by from, then to, then
 /// taken, each with the value that it leads to for the player who makes it: won in `d` plies where
 /// the opponent has then lost in `d - 1`, and so on. Answers how many moves there are. At most
 /// 1,944 are legal. No memory is taken.

@@ -22,7 +22,7 @@ pub(crate) struct Numbering<'a, B: Geometry> {
     pub(crate) pair: Pair<B>,
     pub(crate) greater: &'a [u32],
     pub(crate) lesser: &'a [u32],
-    /// Words that lead the sets of either number of points, or nothing.
+    /// The class words of the sets of either number of points, or nothing.
     pub(crate) greater_class_words: &'a [u32],
     pub(crate) lesser_class_words: &'a [u32],
 }
@@ -40,7 +40,7 @@ impl<B: Geometry> Numbering<'_, B> {
         }
     }
 
-    /// The entry that tells the value of a position of the pair.
+    /// The entry that states the value of a position of the pair.
     pub(crate) fn entry(&self, position: &Position<B>) -> u64
         requires fits { Fits self.now }
         requires of { is_of self.now.pair position.now ≡ true }
@@ -67,7 +67,7 @@ impl<B: Geometry> Numbering<'_, B> {
 }
 
 /// What the entries of a pair go by in a layout: the lists of the representatives for its greater
-/// and for its lesser number of points, 4 bytes for each class; then words that lead the sets of
+/// and for its lesser number of points, 4 bytes for each class; then the class words of the sets of
 /// either number, 4 bytes for each set where these are few. In layout `Full` there is nothing in
 /// them.
 ///

@@ -28,7 +28,7 @@ use std::alloc::Global;
 use std::marker::Model;
 
 /// The file of a pair's table, whose bytes stay where they lie. Its header and its length were
-/// found to be right; its codes and its digest weren't looked at.
+/// found to be right; its codes and its digest weren't checked.
 #[derive(Drop)]
 pub struct Opened<B: Geometry, S: Storage> {
     layout: Layout,
@@ -37,7 +37,7 @@ pub struct Opened<B: Geometry, S: Storage> {
     /// of the lesser one, in layout `Classes`.
     greater: Vec<u32>,
     lesser: Vec<u32>,
-    /// Words that lead the sets of either number of points, where these are few.
+    /// The class words of the sets of either number of points, where these are few.
     greater_class_words: Vec<u32>,
     lesser_class_words: Vec<u32>,
     storage: S,
@@ -56,7 +56,7 @@ impl<B: Geometry, S: Storage> Model for Opened<B, S> {
 }
 
 impl<B: Geometry, S: Storage> Opened<B, S> {
-    /// The pair whose positions the file tells of.
+    /// The pair of the file's positions.
     pub fn pair(&self) -> Pair<B>
         ensures value { result ≡ self.now.pair }
         ensures lawful { IsOpen B.shape self.now }

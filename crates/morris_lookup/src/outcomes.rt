@@ -26,9 +26,9 @@ pub struct Outcome {
     pub value: Value,
 }
 
-/// The legal moves of a position, in order of from, then to, then taken, each with the value that
-/// it leads to for the player who makes it. Two bytes are read for each move. Where the file of
-/// the position after it is that of an exact table, the value is the game's.
+/// The legal moves of a position, ordered by from, then to, then taken, each with the value that it
+/// leads to for the player who makes it. Two bytes are read for each move. Where the file of the
+/// position after it is that of an exact table, the value is the game's.
 ///
 /// # Errors
 /// [`LookFault::Memory`] where there is no room for as many outcomes as there are legal moves;

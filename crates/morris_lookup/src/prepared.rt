@@ -1,4 +1,5 @@
-//! Prepared words: what the classes of sets of points need, in memory that the caller hands in.
+//! Prepared words: what files by classes need to know of the classes of sets of points, in memory
+//! that the caller hands in.
 ghost use Rattle.std.specs.Prelude.{◌≡◌, ◌<◌, ◌≤◌, ◌^◌, true, length, IsOk, IfOk, IfSome, IfNone, MatchResult};
 ghost use Rattle.morris_index.specs.Binomials.{choose};
 ghost use Rattle.morris_lookup.specs.Numberings.{AreListsFor};
@@ -24,7 +25,7 @@ const LEAST: u8 = 3;
 
 const NUMBERS: u8 = 7;
 
-/// For how many of these numbers, from the least on, each set has a word.
+/// For how many of these numbers, from the least on, each set has a class word.
 const SIZES_WITH_WORDS: u8 = 4;
 
 /// How many prepared words there are. It goes through the sets of points of the board, and passes
@@ -63,7 +64,7 @@ pub fn prepare<B: Geometry>(words: &mut [u32]) -> Option<usize>
     write_all::<B>(words, listed)
 }
 
-/// Fills the heading and the sections with representatives, as far as there is room, and answers
+/// Fills the preface and the sections with representatives, as far as there is room, and answers
 /// where these sections end.
 fn list_all<B: Geometry>(words: &mut [u32]) -> usize
     ensures end { result ≡ start_of B.shape 7 }
@@ -80,8 +81,8 @@ fn list_all<B: Geometry>(words: &mut [u32]) -> usize
     end
 }
 
-/// Fills the sections with a word for each set behind those that end at `listed`, and answers where
-/// they end; `None` where there is too little room for them.
+/// Fills the sections with class words after those that end at `listed`, and answers where they
+/// end; `None` where there is too little room for them.
 fn write_all<B: Geometry>(words: &mut [u32], listed: usize) -> Option<usize>
     requires prepared { IsPreparedTo B.shape 7 listed words.old }
     requires few { listed ≤ 2 ^ 27 }
@@ -107,7 +108,7 @@ fn write_all<B: Geometry>(words: &mut [u32], listed: usize) -> Option<usize>
 ///
 /// # Errors
 /// [`ViewFault::Words`] where the words aren't prepared ones. That is known by what they begin with
-/// and by how many they are: what stands in the sections isn't looked at.
+/// and by how many they are: what stands in the sections isn't checked.
 fn section<B: Geometry>(words: &[u32], number: usize) -> Result<&[u32], ViewFault>
     requires { number < 11 }
     ensures found { MatchResult result (λ section. section.now ≡ section_at words.now number) (λ fault. (fault ≡ ViewFault.Words) × (IsPrepared B.shape words.now → ⊥)) }
@@ -129,7 +130,7 @@ fn section<B: Geometry>(words: &[u32], number: usize) -> Result<&[u32], ViewFaul
 }
 
 /// What stands in words that may be prepared ones for the sets of `count` points, 3 to 9: the list
-/// of the representatives of their classes; and a word for each of the sets, or, where the points
+/// of the representatives of their classes; and the class words of the sets, or, where the points
 /// are many, none.
 ///
 /// # Errors
@@ -154,7 +155,7 @@ fn lists_for<B: Geometry>(words: &[u32], count: u8) -> Result<(&[u32], &[u32]), 
 
 /// What the entries of a pair go by in a layout, in words that may be prepared ones: the lists of
 /// the representatives of the classes of sets of its greater and of its lesser number of points,
-/// each with the words that lead the sets.
+/// each with the class words of the sets.
 ///
 /// # Errors
 /// [`ViewFault::Words`] in layout `Classes` where the words aren't prepared ones, as far as that is

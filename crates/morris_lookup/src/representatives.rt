@@ -1,4 +1,4 @@
-//! The lists of the representatives of classes. Stretches of masks that have none are passed over.
+//! The lists of the representatives of classes. Chunks of masks that have none are passed over.
 ghost use Rattle.std.specs.Prelude.{◌≡◌, ℕ, ◌+◌, ◌-◌, ◌*◌, ◌/◌, ◌<◌, ◌≤◌, ◌^◌, true, false, slice_set, IsTrue, IfOk};
 ghost use Rattle.morris_board.specs.Sets.{is_subset};
 ghost use Rattle.morris_index.specs.Classes.{is_representative};
@@ -40,8 +40,8 @@ pub(crate) fn list<B: Geometry>(count: u8, words: &mut [u32], start: usize) -> u
     end
 }
 
-/// Lists those of a stretch from `start` on, as [`list`] does. A stretch has none where its first
-/// set, which is a part of all others, and its last one, which has all of them, show that.
+/// Lists those of a chunk from `start` on, as [`list`] does. A chunk has none where its first set,
+/// which is a part of all others, and its last one, which has all of them, show that.
 fn list_chunk<B: Geometry>(count: u8, number: u32, words: &mut [u32], start: usize) -> usize
     requires number { number < 2 ^ (B.POINTS - B.POINTS / 3) }
     requires few { start ≤ 2 ^ 28 }
@@ -94,7 +94,7 @@ fn is_passed_over<B: Geometry>(count: u8, first: Points, last: Points) -> bool
     false
 }
 
-/// How many masks a stretch has.
+/// How many masks a chunk has.
 fn chunk_size<B: Geometry>() -> u32
     ensures value { result ≡ chunk_size B.POINTS }
     ensures few { result ≤ 2 ^ 8 }
@@ -103,7 +103,7 @@ fn chunk_size<B: Geometry>() -> u32
     1 << (B::POINTS / 3)
 }
 
-/// How many stretches there are.
+/// How many chunks there are.
 fn chunk_count<B: Geometry>() -> u32
     ensures value { result ≡ 2 ^ (B.POINTS - B.POINTS / 3) }
     ensures few { result ≤ 2 ^ 24 }
@@ -111,7 +111,7 @@ fn chunk_count<B: Geometry>() -> u32
     1 << (B::POINTS - B::POINTS / 3)
 }
 
-/// The first mask of a stretch.
+/// The first mask of a chunk.
 fn chunk_start<B: Geometry>(number: u32) -> u32
     requires { number < 2 ^ (B.POINTS - B.POINTS / 3) }
     ensures value { result ≡ number * chunk_size B.POINTS }

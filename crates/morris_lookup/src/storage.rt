@@ -35,7 +35,7 @@ pub trait Storage {
     ghost contents_held: { (storage : Self) → IfSome (contents storage) (λ bytes. held storage ≡ Some bytes) };
 }
 
-/// Bytes in memory, which somebody else keeps.
+/// Bytes in memory, which somebody else owns.
 impl Storage for &[u8] {
     ghost use Rattle.std.specs.Prelude.{refl};
 

@@ -19,7 +19,7 @@ use morris_pairs::exact::value_of_code;
 use morris_pairs::header::HEADER;
 use morris_pairs::value::Value;
 
-/// The bytes of a table file, which somebody else keeps and nobody changes meanwhile.
+/// The bytes of a table file, which somebody else owns and nobody changes meanwhile.
 #[repr(C)]
 #[derive(Clone, Copy)]
 pub struct View<'a> {
@@ -31,9 +31,9 @@ pub struct View<'a> {
 /// header. A player to move with two stones has lost in 0 plies: that needs no file. Of the file
 /// the header is read, and two bytes. No memory is taken.
 ///
-/// `words` serve files by classes alone, and have to be those that [`prepare`](crate::prepared)
-/// filled for this board: else the value is any. Where that file is the one of an exact table, it
-/// is the position's value in the game.
+/// `words` are needed for files by classes alone, and have to be those that
+/// [`prepare`](crate::prepared) filled for this board: else the value is any. Where that file is
+/// the one of an exact table, it is the position's value in the game.
 ///
 /// # Errors
 /// [`ViewFault::NoFile`] where no file names the position's pair. [`ViewFault::File`] where the

@@ -1,5 +1,5 @@
--- The quiet moves that lead to a position: where the stone that moved came from, and the position
--- before.
+-- The quiet moves that lead to a position: where the stone that moved came from, and the
+-- predecessor.
 use Rattle.std.proofs.Common.{◌≡◌, ◌≢◌, ℕ, ◌<◌, ◌≤◌, Bool, true, false, not, ◌&&◌, ◌||◌, cond, eqb, ltb, refl, sym, ap, ap₂, ◌∙◌, subst, inl, inr, arith, None, Ok, Err}
 use Rattle.std.proofs.lemmas.Bool.{cases_Bool, cases_eq, cases_lt, eq-eqb, ne_eqb, lt-ltb, le-ltb, both_ways, and_parts, and_from, or_parts, or_right, not-true, false_from_ne_true}
 use Rattle.morris_board.specs.Sets.{has, count_of, with_point, without_point}
@@ -43,7 +43,7 @@ module _ (own u v : ℕ) (start : has own u ≡ true) (end : has own v ≡ false
         ]
       ]
 
--- ---- the position before a quiet move
+-- ---- the predecessor by a quiet move
 
 pub vacant_parts : (s : Sides) (u : ℕ) → is_vacant s u ≡ true → (has s.own u ≡ false) × (has s.other u ≡ false)
 vacant_parts s u h = or_parts (has s.own u) (has s.other u) (not-true _ h)
@@ -128,7 +128,7 @@ module _ (b : Shape) (n : ℕ) (e : b.points ≡ n) (few : n ≤ 24) (q : Sides)
         leads = result-before b small q h (move u v None) low vacant end refl;
       })
 
--- ---- whether a quiet move led to a position
+-- ---- whether a quiet move leads to a position
 
 goes-back : (b : Shape) (n u v : ℕ) → goes b n u v ≡ goes b n v u
 goes-back b n u v = ap (λ x. cond (ltb 3 n) x (eqb n 3)) (is_adjacent-back b u v)
@@ -257,7 +257,7 @@ module _ (b : Shape) (small : b.points ≤ 24) (q : Sides) (h : IsPosition b q) 
       }
 
   -- a set that has each point from which the stone on v has come has each point from which a quiet
-  -- move to v led to q
+  -- move to v leads to q
   pub sources-complete : (n : ℕ) → b.points ≡ n → (v r : ℕ) → ((u : ℕ) → has r u ≡ (ltb u n && has_come b q (move u v None)))
       → (u : ℕ) (p : Sides) → LeadsTo b q p (move u v None) → has r u ≡ true
   sources-complete n e v r each u p l =

@@ -1,5 +1,5 @@
--- The moves that are taken back are the quiet moves that lead to a position, in order, and there
--- are few of them.
+-- The quiet un-moves that are listed are the quiet moves that lead to a position, in order, and
+-- there are few of them.
 use Rattle.std.proofs.Common.{◌≡◌, ℕ, ◌*◌, ◌<◌, ◌≤◌, true, false, not, ◌&&◌, ltb, length, ◌↔◌, map, refl, sym, ap, ap₂, subst, ◌∙◌, inl, inr, arith, None}
 use Rattle.std.proofs.lemmas.Bool.{cases_Bool, cases_lt, lt-ltb, le-ltb, ltb-true, and_parts, and_from, not-true, not_from_false, both_ways}
 use Rattle.std.proofs.Math.ListN.{length-map}

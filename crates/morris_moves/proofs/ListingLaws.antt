@@ -1,4 +1,4 @@
--- How a list of legal moves, and one of moves taken back, goes on step by step.
+-- How a list of legal moves, and one of quiet un-moves, goes on from one move to the next.
 use Rattle.std.proofs.Common.{◌≡◌, ℕ, Bool, true, false, ◌&&◌, ltb, [], ◌∷◌, refl, sym, ◌∙◌, Some, None, append_assoc}
 use Rattle.std.specs.List.{flat_map}
 use Rattle.morris_board.specs.Sets.{has, members, count_of}
@@ -40,7 +40,7 @@ module _ (b : Shape) (s : Sides) where
   unfolding moves_left
   moves_left_none froms u tos v takes none done e = rw (none, done, e) refl
 
--- ---- moves taken back
+-- ---- quiet un-moves
 
 pub arrived-few : (b : Shape) (q : Sides) → ltb (count_of q.own) 3 ≡ true → stones_to_unmove b q ≡ 0
 unfolding stones_to_unmove

@@ -57,7 +57,7 @@ module _ (b : Shape) (s : Sides) (small : b.points ≤ 24) (h : IsPosition b s) 
       let low : t < b.points = point_lt s.other b.points t h.stones.other_within here in
       inr (count_of-without s.other t (omega arith) here)
 
-  -- the side that moved keeps its number of stones
+  -- the side that moved has as many stones as before
   pub count_of-mover : count_of (result_of s m).other ≡ count_of s.own
   unfolding result_of
   count_of-mover = count_of-move_stone s.own m.from m.to (omega (arith, l.from_within)) (omega (arith, l.to_within)) l.from_own l.to_not_own

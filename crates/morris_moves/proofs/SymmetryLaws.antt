@@ -176,7 +176,7 @@ module _ (b : Shape) (few : b.points ≤ 24) (f back : ℕ → ℕ) (y : IsSymme
           result_of-image m l.from_within l.to_within (taken_within m l),
         )
 
-  -- the image under the way back of the image of a move
+  -- the image under the inverse of the image of a move
   image_move-undone : (m : Move) → m.from < b.points → m.to < b.points → ((r : ℕ) → m.taken ≡ Some r → r < b.points)
       → image_move back (image_move f m) ≡ m
   image_move-undone m low high taken = rw (y.undone m.from low, y.undone m.to high, taken_undone m.taken taken) refl

@@ -1,4 +1,4 @@
--- The quiet moves that lead to a position, looked at from it.
+-- Quiet un-moves of a position, and the predecessors that they give.
 use Rattle.std.specs.Prelude.{◌≡◌, Bool, ◌&&◌, None}
 use Rattle.std.specs.List.{Contains}
 use Rattle.morris_board.specs.Boards.{Shape}
@@ -14,13 +14,13 @@ pub record LeadsTo (board : Shape) (q p : Sides) (m : Move) : Type 0 where
   pub quiet : m.taken ≡ None
   pub result : result_of p m ≡ q
 
--- The position before a quiet move that led to q: its stone stands again where it came from, and
--- the player who made it is to move.
+-- The predecessor of q by a quiet move: the stone of the move stands again where it came from, and
+-- the player who made the move is to move.
 unfoldable pub unmove : Sides → Move → Sides
 unmove q m = sides (move_stone q.other m.to m.from) q.own
 
--- whether a quiet move led to q: the point that it left is vacant, and the move is legal in the
--- position before it
+-- whether a quiet move leads to q: the point that it leaves is vacant, and the move is legal in the
+-- predecessor
 unfoldable pub has_come : Shape → Sides → Move → Bool
 has_come board q m = is_vacant q m.from && is_legal board (unmove q m) m
 

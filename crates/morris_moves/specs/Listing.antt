@@ -1,4 +1,4 @@
--- What is still to come of a list of legal moves, and of a list of moves taken back.
+-- What is still to come of a list of legal moves, and of a list of quiet un-moves.
 use Rattle.std.specs.Prelude.{◌≡◌, ℕ, ◌<◌, true, ◌&&◌, nat_lt, List, ◌++◌, map, None, if◌then◌else◌}
 use Rattle.std.specs.List.{flat_map}
 use Rattle.morris_board.specs.Sets.{has, members, count_of, set_where}
@@ -14,8 +14,8 @@ unfoldable pub moves_left : Shape → Sides → ℕ → ℕ → ℕ → ℕ → 
 moves_left board s froms u tos v takes =
     captures u v takes ++ (flat_map (moves_to board s u) (members tos) ++ flat_map (moves_from board s) (members froms))
 
--- The stones that may have made the move before q, where that was quiet: the opponent's that stand
--- in no mill, and none where the player to move has too few stones for an opponent.
+-- The stones that a quiet un-move of q may take back: the opponent's that stand in no mill, and
+-- none where the player to move has too few stones for an opponent.
 unfoldable pub stones_to_unmove : Shape → Sides → ℕ
 stones_to_unmove board q = if nat_lt (count_of q.own) 3 then 0 else free_stones board q.other
 
@@ -23,7 +23,7 @@ stones_to_unmove board q = if nat_lt (count_of q.own) 3 then 0 else free_stones 
 unfoldable pub targets : Shape → Sides → ℕ → ℕ
 targets board q u = set_where board.points (λ v. has (stones_to_unmove board q) v && goes board (count_of q.other) u v)
 
--- the move from u to v, and the position before it
+-- the predecessor of q by the move from u to v, and that move
 abbrev pub back : Sides → ℕ → ℕ → Sides × Move
 back q u v = (unmove q (move u v None), move u v None)
 

@@ -1,4 +1,4 @@
-//! The quiet moves that lead to a position, taken back.
+//! Quiet un-moves of a position, and the predecessors that they give.
 ghost use Rattle.std.specs.Prelude.{◌≡◌, ℕ, ◌<◌, ◌≤◌, ◌*◌, ◌&&◌, ◌↔◌, nat_lt, true, None, length};
 ghost use Rattle.std.specs.List.{AllPairs, Contains};
 ghost use Rattle.std.specs.Iterator.{YieldsFirst, item_count};
@@ -18,8 +18,8 @@ use std::marker::Model;
 
 /// The points from which the stone on `to`, one of the opponent's, may have come by a quiet move.
 /// They are none where it stands in a mill, since the move would have closed that mill and taken a
-/// stone. Where the player to move has two stones they are given too, though no position comes
-/// before: the opponent of the one who moves has at least three.
+/// stone. Where the player to move has two stones the points are given too, though the position has
+/// no predecessor: the opponent of the one who moves has at least three.
 pub fn sources<B: Geometry>(position: &Position<B>, to: u8) -> Points
     requires { has position.now.other to ≡ true }
     ensures come { (u : ℕ) → has result u ≡ (nat_lt u B.POINTS && has_come B.shape position.now (move u to None)) }
@@ -32,8 +32,8 @@ pub fn sources<B: Geometry>(position: &Position<B>, to: u8) -> Points
     steps::<B>(other.count(), to).intersection(vacant(position))
 }
 
-/// The position before the move from `from` to `to` that led to `position`, where it took no stone:
-/// a stone of the opponent stands on `to`, and `from` is vacant. The player to move has at least
+/// The predecessor that the un-move from `to` back to `from` gives, where the move took no stone: a
+/// stone of the opponent stands on `to`, and `from` is vacant. The player to move has at least
 /// three stones, as the opponent of the one who moved.
 pub fn unmove<B: Geometry>(position: &Position<B>, from: u8, to: u8) -> Position<B>
     requires start { from < B.POINTS }
@@ -52,9 +52,9 @@ pub fn unmove<B: Geometry>(position: &Position<B>, from: u8, to: u8) -> Position
     }
 }
 
-/// The stones that may have made the move before, where that was quiet: those of the opponent that
-/// stand in no mill. They are none where the player to move has two stones, since the opponent of
-/// the one who moved has three at least.
+/// The stones that a quiet un-move may take back: those of the opponent that stand in no mill. They
+/// are none where the player to move has two stones, since the opponent of the one who moved has
+/// three at least.
 fn stones_to_unmove<B: Geometry>(position: &Position<B>) -> Points
     ensures stones { result ≡ stones_to_unmove B.shape position.now }
     ensures lawful { IsPosition B.shape position.now }
@@ -65,7 +65,7 @@ fn stones_to_unmove<B: Geometry>(position: &Position<B>) -> Points
     free_stones::<B>(position.other())
 }
 
-/// Those of the `stones` that may have moved which may have come from `from`.
+/// Those of `stones`, which may have moved, that may have come from `from`.
 fn targets<B: Geometry>(position: &Position<B>, stones: Points, from: u8) -> Points
     requires stones { stones ≡ stones_to_unmove B.shape position.now }
     requires start { from < B.POINTS }
@@ -74,8 +74,8 @@ fn targets<B: Geometry>(position: &Position<B>, stones: Points, from: u8) -> Poi
     steps::<B>(position.other().count(), from).intersection(stones)
 }
 
-/// An iterator over the quiet moves that lead to a position, each once and with the position before
-/// it, in order of the point that the stone left, then of the one it went to.
+/// An iterator over the quiet moves that lead to a position, each once and with the predecessor, in
+/// order of the point that the stone left, then of the one it went to.
 #[derive(Drop)]
 #[derive_where(Debug)]
 pub struct Backs<B: Geometry> {

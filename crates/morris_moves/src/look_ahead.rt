@@ -25,7 +25,7 @@ pub fn within<B: Geometry>(position: &Position<B>, plies: u8) -> Within
     ensures images { (s : Sides) → IsPosition B.shape s → IsImage B.shape s position.now → AnswersWithin B.shape s plies result }
 {
     for depth in 0..=plies {
-        // A depth of a loss is even and a depth of a win is odd, so one test serves.
+        // A loss has an even depth and a win an odd one, so each depth needs one test alone.
         if depth % 2 == 0 {
             if is_lost(position, depth) {
                 return Within::Lost(depth);

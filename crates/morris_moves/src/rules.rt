@@ -184,10 +184,10 @@ pub fn moves<B: Geometry>(position: &Position<B>) -> Moves<B>
     Moves::new(*position)
 }
 
-/// The positions from which a quiet legal move leads to `position`, each with that move, in order
-/// of the point that the stone left, then of the one it went to. There are none where the player to
-/// move has two stones. A stone left one of at most 24 points, and at most 9 stones may have left
-/// each.
+/// The predecessors of `position`: the positions from which a quiet legal move leads to it, each
+/// with that move, in order of the point that the stone left, then of the one it went to. There are
+/// none where the player to move has two stones. A stone left one of at most 24 points, and at most
+/// 9 stones may have left each.
 pub fn backs<B: Geometry>(position: &Position<B>) -> Backs<B>
     ensures listed { (p : Sides) (m : Move) → Contains result (p, m) ↔ LeadsTo B.shape position.now p m }
     ensures ascending { AllPairs MovePrecedes result }

@@ -353,7 +353,7 @@ module _ (board : Shape) (few : board.points ≤ 24) (t : Table) (laid : IsLaid 
         won zero = (none (get_or t.codes (entry_index board board.points t.layout t.pair s) 0)).1 ∙ sym (none (code_from (result_codes board t s))).1
         won (suc n) = (exact_means (suc n) s h of).1 ∙ sym (rule_is_won n s h of cache (exact_means n))
 
--- ---- in the words of the game
+-- ---- in terms of the game
 
 module _ (board : Shape) (lawful : is_board board ≡ true) (y : HasSymmetries board) (t : Table) (raw : IsRaw board t) (values : HasGameValues board t.layout t.pair) where
   entries : IsLaid board (order_of t.layout) t.pair
@@ -518,7 +518,7 @@ module _ (board : Shape) (t : Table) (s : Sides) where
       ∙ same_from_rule (capture_codes board s ++ map (λ m. get_or t.codes (entry_index board board.points t.layout t.pair (result_of s m)) 0) (filter is_quiet (moves_of board s)))
       (result_codes board t s) (λ n. all_both (is_won_exit n)) (λ n. any_both (is_lost_exit n))
 
-  -- the same by what results are worth
+  -- the same by the scores of results
   pub best-all : (e : Exits) → e ≡ exits_of (capture_codes board s) → IsShort e → ((k : ℕ) → get_or t.codes k 0 ≤ 65535)
       → code_of_score (best_of (score_of e) (quiet_codes board t s (moves_of board s))) ≡ code_from (result_codes board t s)
   unfolding quiet_codes

@@ -1,4 +1,4 @@
--- The list of the entries before the quiet moves to a position, and the loops that make it.
+-- The list of the predecessors of a position, and the loops that make it.
 use Rattle.std.proofs.Common.{◌≡◌, ℕ, ◌*◌, ◌<◌, ◌≤◌, true, List, [], ◌∷◌, ◌++◌, length, map, refl, sym, ap, ◌∙◌, subst, arith, append_assoc, None}
 use Rattle.std.proofs.lemmas.List.Elements.{Contains-append_right}
 use Rattle.std.proofs.lemmas.List.Concat.{flat_map_single}
@@ -32,7 +32,8 @@ pub record AreLeading (o : Order) (b : Shape) (n : ℕ) (c : Counts) (p : Sides)
   pub nodes : All (λ j. j < count_in b n o c) xs
   pub few : length xs ≤ 9 * 24 * b.symmetries
 
--- where each position has an entry, the entry before a move is that of the one position before it
+-- where each position has an entry, the predecessor by a move is the entry of the one position
+-- before it
 by_index : (b : Shape) (n : ℕ) (c : Counts) (p : Sides) (moves : List Move) → indices_before n c p moves ≡ predecessors_in Full b n c p moves
 unfolding indices_before predecessors_in unmove move_stone
 by_index b n c p moves = sym (flat_map_single (λ m. index_of n c (unmove_sides p m.from m.to)) moves)

@@ -1,4 +1,4 @@
--- The captures of a position, from what is kept of its own stones.
+-- The captures of a position, from the row of its own stones.
 use Rattle.std.proofs.Common.{◌≡◌, ℕ, ◌<◌, ◌≤◌, ◌^◌, true, false, not, ◌&&◌, ltb, eqb, Bool, List, [], ◌∷◌, ◌++◌, length, map, slice_index, Option, Some, None, is_none, filter, refl, sym, ap, subst, ◌∙◌, inl, inr, arith, append_assoc}
 use Rattle.std.proofs.Math.Bool.{and_assoc}
 use Rattle.std.proofs.lemmas.Bool.{cases_Bool, cases_eq, both_ways, lt-ltb, and_parts, and_from, ltb-true, eqb-false, not-true, false_from_ne_true}
@@ -83,7 +83,8 @@ pub takable_stones-lt : (b : Shape) (s : Sides) → b.points ≤ 24 → IsPositi
 takable_stones-lt b s few h = lt_from_points (takable_stones b s.other) 32 (λ p here.
     omega (arith, point_lt s.other b.points p h.stones.other_within (takable_is_other b s.other p here)))
 
--- the captures that are kept: by the stone that is taken, then by the point that the move goes to
+-- the captures in the order of the loops: by the stone that is taken, then by the point that the
+-- move goes to
 abbrev pub kept_captures : Row → ℕ → List ℕ → List Move
 kept_captures row ends ts = flat_map (λ t. captures_to row.closers t (members ends)) ts
 

@@ -46,7 +46,7 @@ module _ (b : Shape) (n : ℕ) (points : b.points ≡ n) (low : n ≤ 24) (s : S
   left_counts t of = subst (λ c. are_of c (count_of (without_point s.other taken)) (count_of s.own) ≡ true) (sym of.of)
       (rw left_count (ordered_are (count_of s.other - 1) (count_of s.own)))
 
-  -- what is kept of a stone tells the code of the result of each move that takes it
+  -- where the results of taking a stone stand, the codes of these results are found
   module _ (t : Table) (of : IsTableOf b (captured_pair s) t) (standing : Standing) (left : IsLeft b n s t taken standing) (u v : ℕ)
       (closing : IsClosing b s u v) (opponent_set : ℕ) (is : opponent_set ≡ with_point (without_point s.own u) v) where
     abbrev m : Move

@@ -1,5 +1,6 @@
--- A graph in which positions are led, looked at from a node: the moves to the position of the node,
--- each carried by the symmetries that carry it, are the moves of the nodes that lead there.
+-- A graph by canonical forms, looked at from a node: the moves to the position of the node, each
+-- taken along by the symmetries that give un-moves by it, are the moves of the nodes that lead
+-- there.
 use Rattle.std.proofs.Common.{◌≡◌, ℕ, ◌*◌, ◌<◌, ◌≤◌, ◌^◌, Bool, true, ◌&&◌, eqb, leb, cond, List, [], ◌∷◌, map, filter, length, refl, sym, ap, subst, ◌∙◌, inl, inr, arith, None}
 use Rattle.std.specs.List.{All, Contains, range_with_len, count_by, sum_by, flat_map, list_all}
 use Rattle.std.specs.Option.{option_map}
@@ -45,7 +46,7 @@ all_symmetries b = range_with_len 0 b.symmetries
 -- ---- a set and its representative
 
 module _ (b : Shape) (low : b.points ≤ 24) (y : HasSymmetries b) (s : ℕ) (in_range : s < b.symmetries) (set : ℕ) (small : set < 2 ^ b.points) where
-  -- a symmetry that leads a set takes it to its representative
+  -- a symmetry that canonicalizes a set takes it to its canonical form
   pub leads_there : is_canonicalizing b set s ≡ true → image_of (b.image s) set ≡ representative_of b set
   unfolding is_canonicalizing representative_of
   leads_there canonicalizing =
@@ -54,7 +55,7 @@ module _ (b : Shape) (low : b.points ≤ 24) (y : HasSymmetries b) (s : ℕ) (in
       below (λ t. leb (image_of (b.image s) set) (image_of (b.image t) set)) b.symmetries canonicalizing (symmetry_of b set) first.within in
       omega (arith, first.least s in_range, leb-true (image_of (b.image s) set) (image_of (b.image (symmetry_of b set)) set) above)
 
-  -- a set that it takes to a representative is led by it
+  -- where it takes a set to a canonical form, it canonicalizes the set
   pub canonicalizing_from : representative_of b (image_of (b.image s) set) ≡ image_of (b.image s) set → image_of (b.image s) set < 2 ^ b.points → is_canonicalizing b set s ≡ true
   unfolding is_canonicalizing representative_of
   canonicalizing_from own within =
@@ -81,7 +82,7 @@ module _ (b : Shape) (low : b.points ≤ 24) (y : HasSymmetries b) (c : Counts) 
   back_one : (s : ℕ) → s < b.symmetries → IsOneToOne b.points (b.image (inverse_of s)) (b.image s)
   back_one s in_range = one_to_one b _ _ (IsSymmetry-back b _ _ (y.symmetry s in_range))
 
-  -- ---- positions that are carried by a symmetry
+  -- ---- images of positions under a symmetry, and back
 
   module _ (s : ℕ) (in_range : s < b.symmetries) where
     abbrev f : ℕ → ℕ
@@ -124,20 +125,20 @@ module _ (b : Shape) (low : b.points ≤ 24) (y : HasSymmetries b) (c : Counts) 
   -- ---- the moves to a position with an entry of its own
 
   module _ (p : Sides) (h : IsPosition b p) (of : is_of c p ≡ true) (own : own_in b o p ≡ true) where
-    -- the nodes to which symmetries carry the move from u to v
+    -- the predecessors by the move from u to v, one for each symmetry that gives one
     abbrev carried_before : ℕ → ℕ → List ℕ
     carried_before u v =
         map (λ s. entry (image_sides (b.image s) (unmove_sides p u v))) (filter (gives_unmove b (turn p) (turn (unmove_sides p u v)).own) (all_symmetries b))
 
-    -- those to which they carry some moves
+    -- those by some moves
     abbrev canonicalizing : List Move → List ℕ
     canonicalizing moves = flat_map (λ m. carried_before m.from m.to) moves
 
-    -- whether symmetry s carries a move to p to one of the entry j
+    -- whether symmetry s gives the predecessor j by a move to p
     abbrev from_entry : ℕ → Move → ℕ → Bool
     from_entry j m s = gives_unmove b (turn p) (turn (unmove p m)).own s && eqb (entry (image_sides (b.image s) (unmove p m))) j
 
-    -- whether a move of x leads to the entry of p, by the way back of symmetry s
+    -- whether a move of x leads to the entry of p, by the inverse of symmetry s
     abbrev to_entry : Sides → Move → ℕ → Bool
     to_entry x m s = eqb (entry (result_of x m)) (entry p) && eqb (symmetry_of b (turn (result_of x m)).own) (inverse_of s)
 
@@ -154,7 +155,7 @@ module _ (b : Shape) (low : b.points ≤ 24) (y : HasSymmetries b) (c : Counts) 
       before_position : IsPosition b (unmove p m)
       before_position = is_position b low c pair (unmove p m) (led-placed b low c pair p h of m has_led) before_of
 
-    -- a position that falls on the entry of p, by the way back of s, is the image of p
+    -- a position whose entry is that of p, by the inverse of s, is the image of p
     landed : (t : Sides) → IsPosition b t → is_of c t ≡ true → entry t ≡ entry p → (s : ℕ) → s < b.symmetries → symmetry_of b (turn t).own ≡ inverse_of s
         → t ≡ image_sides (b.image s) p
     landed t position t_of same s in_range by =
@@ -163,7 +164,7 @@ module _ (b : Shape) (low : b.points ≤ 24) (y : HasSymmetries b) (c : Counts) 
         let there : image_sides (b.image (inverse_of s)) t ≡ p = ap (λ u. image_sides (b.image u) t) (sym by) ∙ alone ∙ led_here in
         sym (back_and_there s in_range t position) ∙ ap (image_sides (b.image s)) there
 
-    -- and the image of p falls on it
+    -- and the image of p has that entry
     lands : (s : ℕ) → s < b.symmetries → symmetry_of b (turn (image_sides (b.image s) p)).own ≡ inverse_of s → entry (image_sides (b.image s) p) ≡ entry p
     lands s in_range by =
         let t : Sides = image_sides (b.image s) p in
@@ -194,7 +195,7 @@ module _ (b : Shape) (low : b.points ≤ 24) (y : HasSymmetries b) (c : Counts) 
         k_of = is_of-quiet c x (result_of x m) x_of (count_of-quiet b x low x_position m k_legal k_none) (count_of-mover b x low x_position m k_legal)
 
       module _ (s : ℕ) (in_range : s < b.symmetries) where
-        -- a move that is carried to one of x comes from the position that is carried to x
+        -- a move that gives the predecessor x comes from the position whose image is x
         carried_is : (m : Move) → Contains (all_before b p) m → from_entry j m s ≡ true → image_sides (b.image s) (unmove p m) ≡ x
         carried_is m k e =
             let parts = and_parts (gives_unmove b (turn p) (turn (unmove p m)).own s) _ e in
@@ -250,7 +251,7 @@ module _ (b : Shape) (low : b.points ≤ 24) (y : HasSymmetries b) (c : Counts) 
                 (leads-other b low c pair t t_position t_of x m l ∙ sym (leads-other b low c pair t t_position t_of x k r)) in
                 alike m k points.0 points.1 l.quiet r.quiet
 
-        -- a move to p that is carried to x is there a move of x that counts
+        -- a move to p that gives the predecessor x is there a move of x that counts
         before_after : 0 < count_by (λ m. from_entry j m s) (all_before b p) → 0 < count_by (λ m. to_entry x m s) quiets
         before_after some =
             let r = found (λ m. from_entry j m s) (all_before b p) some in
@@ -323,7 +324,7 @@ module _ (b : Shape) (low : b.points ≤ 24) (y : HasSymmetries b) (c : Counts) 
         counts_same : count_by (λ m. from_entry j m s) (all_before b p) ≡ count_by (λ m. to_entry x m s) quiets
         counts_same = one_each _ _ one_before one_after before_after after_before
 
-      -- a quiet move of x that leads to the entry of p does so by the way back of just one symmetry
+      -- a quiet move of x that leads to the entry of p does so by the inverse of just one symmetry
       by_one : (m : Move) → Contains quiets m → cond {A = ℕ} (eqb (entry (result_of x m)) (entry p)) 1 0 ≡ count_by (to_entry x m) (all_symmetries b)
       by_one m k = elim (cases_Bool (eqb (entry (result_of x m)) (entry p))) [
         | inl falls ↦

@@ -223,7 +223,7 @@ module _ (own mill missing : ℕ) (small : mill < 2 ^ 32) (each : (p : ℕ) → 
           ∙ ap (λ t. v ∷ members t) gone ∙ ap (λ ts. v ∷ ts) members-none)
 
   module _ (mills : List ℕ) (k : ℕ) (inside : k < length mills) (is : slice_index mills k ≡ mill) (last : ℕ) (before : AreLast (take k mills) own last) where
-    -- where it isn't among those before, this mill is the one
+    -- where it isn't among the earlier ones, this mill is the one
     this_one : (v : ℕ) → list_any (λ m. has m v && is_subset m (with_point own v)) (take (k + 1) mills) ≡ true
         → list_any (λ m. has m v && is_subset m (with_point own v)) (take k mills) ≡ false → (has mill v && is_subset mill (with_point own v)) ≡ true
     this_one v any not_before =

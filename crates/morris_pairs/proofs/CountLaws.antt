@@ -27,8 +27,8 @@ use Rattle.morris_pairs.specs.Tables.{IsTable, Table}
 use Rattle.morris_pairs.proofs.CodeLaws.{one_code}
 use Rattle.morris_pairs.proofs.PositionLaws.{position_of_node}
 
--- what holds of every two of one list, and of another, and of each of the one with each of the other,
--- holds of every two of both
+-- what holds of every two of one list, and of another, and of each of the one with each of the
+-- other, holds of every two of both
 pub pairs_append : {X : Type 0} (R : X → X → Type 0) (xs ys : List X) → AllPairs R xs → AllPairs R ys
     → ((x y : X) → Contains xs x → Contains ys y → R x y) → AllPairs R (xs ++ ys)
 pairs_append R xs ys first second across = λ i j d less within.
@@ -217,7 +217,7 @@ module _ (board : Shape) (few : board.points ≤ 24) (y : HasSymmetries board) w
         (λ s h. record { lawful = h.lawful; of = h.of; shown = refl; entry_is = h.entry_is })
         (one_own Full entry low)
 
-    -- all positions with an entry are those that are led to it
+    -- all positions with an entry are those whose canonical form has it for its own
     pub many_classes : (entry count : ℕ) → HasPositions board board.points c entry count → AreSoMany (IsOfEntry board Classes c true entry) count
     many_classes entry count h = record {
       positions = h.positions;
@@ -232,8 +232,8 @@ module _ (board : Shape) (few : board.points ≤ 24) (y : HasSymmetries board) w
   -- ---- all entries, and either half
 
   module _ (t : Table) (pair : IsPair board.points t.pair) where
-    -- where only those are asked for that have an entry of their own, or each position has one, each
-    -- entry counts for one
+    -- where only those are asked for that have an entry of their own, or each position has one,
+    -- each entry counts for one
     one_each : (all : Bool) → (all ≡ false) ⊎ (t.layout ≡ Full) → (entry : ℕ) → entry < entry_count board board.points t.layout t.pair
         → AreSoMany (IsOfEntry board t.layout t.pair all entry) 1
     one_each all (inl none) entry low = rw none (one_own t.pair pair t.layout entry low)
@@ -311,7 +311,8 @@ module _ (board : Shape) (few : board.points ≤ 24) (y : HasSymmetries board) w
         (λ s a. record { stated = a.1; shown = refl; from = omega arith; below = in_first t.layout refl s a.1.lawful a.1.of a.0 })
         (h code)
 
-    -- those of the others are those of the positions with the lesser number, where it is another one
+    -- those of the others are those of the positions with the lesser number, where it is another
+    -- one
     pub tallied_second : t.pair.lesser < t.pair.greater → (tallies : List ℕ)
         → AreTalliesOf board t true (first_half_of board board.points t.layout t.pair) (entry_count board board.points t.layout t.pair) tallies
         → AreTallies (with_own t.pair.lesser (HasStated board t)) tallies

@@ -1,4 +1,4 @@
--- The graph of a pair, in each order, is too deep exactly where codes of 16 bits can't tell the
+-- The graph of a pair, in each order, is too deep exactly where codes of 16 bits can't state the
 -- game's values.
 use Rattle.std.proofs.Common.{◌≡◌, ℕ, suc, ◌-◌, ◌<◌, ◌≤◌, ◌%◌, max, Bool, true, false, not, ltb, leb, List, [], ◌∷◌, map, Option, Some, None, is_none, filter, refl, sym, ap, subst, ◌∙◌, inl, inr, ◌⊎◌, arith}
 use Rattle.std.proofs.lemmas.Bool.{cases_lt, both_ways, and_parts, and_from, eqb-true, eqb-false, eq-eqb, ltb-true, ltb-false, leb-true, le-leb, not-true, false_from_ne_true}

@@ -1,4 +1,4 @@
--- Where the entries of all positions that face others agree, all entries do.
+-- Where the entries of all members of groups agree, all entries do.
 use Rattle.std.proofs.Common.{◌≡◌, ℕ, ◌<◌, ◌≤◌, List, length, slice_index, slice_index_or, refl, sym, ap, subst, ◌∙◌, arith}
 use Rattle.std.specs.List.{All, Contains}
 use Rattle.std.proofs.lemmas.Bool.{eqb-true}
@@ -37,7 +37,7 @@ listed-agree board n points t first end group listed agree k from to p h of own 
     (λ q m. All-contains (EntryAgrees board t) group q agree (listed.each p h of own (omega (arith, same)) (omega (arith, same)) q m))
     (by_opponent board t.pair p) (All-contains_itself (by_opponent board t.pair p))
 
--- each position with an entry of its own is among those that face others
+-- each position with an entry of its own is a member that some entry gives
 pub group-all : (board : Shape) → board.points ≤ 24 → HasSymmetries board → (t : Table) → t.layout ≡ Classes → IsPair board.points t.pair
     → ((k : ℕ) → k < class_size_of board board.points t.pair → GroupAgrees board t k) → (i : ℕ) → Agrees board t i
 group-all board few y t classes pair agree i s h of own at =

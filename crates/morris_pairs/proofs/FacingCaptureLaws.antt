@@ -1,4 +1,4 @@
--- The captures of a position, by the stones that the opponent faces after them.
+-- The captures of a position, by the opponent's set in their results.
 use Rattle.std.proofs.Common.{◌≡◌, ℕ, ◌<◌, ◌≤◌, eqb, List, [], ◌∷◌, ◌++◌, map, filter, Some, is_none, refl, sym, ap, subst, ◌∙◌, inl, inr, arith, append_assoc}
 use Rattle.std.proofs.lemmas.Bool.{cases_eq, both_ways, eq-eqb, or_right, not-true}
 use Rattle.std.proofs.lemmas.List.{flat_map_more}

@@ -165,7 +165,7 @@ file_parts board t after =
     append_assoc (content_of board t) (sha256 (content_of board t)) after
     ∙ append_assoc (header_of board t.layout t.pair (length t.codes)) (code_bytes t.codes) (sha256 (content_of board t) ++ after)
 
--- a file is read back as its table, whatever follows it
+-- reading the file of a table gives the table, whatever follows the file
 pub file_in-file_of : (board : Shape) (t : Table) (after : List ℕ) → IsRaw board t → length t.codes < 2 ^ 64 → file_in board (file_of board t ++ after) ≡ Ok (t, after)
 unfolding content_of
 file_in-file_of board t after raw fits =

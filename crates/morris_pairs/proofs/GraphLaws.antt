@@ -161,7 +161,7 @@ game_values board lawful y o c pair known s code h of =
       λ v. subst (λ g. HasCode g (index_in board board.points o c s) code) (sym same) (code_node board few o c entries known s h of code v),
     )
 
--- the graph is too deep where codes of 16 bits don't tell the values of the game
+-- the graph is too deep where codes of 16 bits don't state the values of the game
 pub game_depths : (board : Shape) → is_board board ≡ true → HasSymmetries board → (o : Order) (c : Counts) → IsPair board.points c → IsKnown board c
     → IsTooDeep (net_at board (level_in o c)) ↔ IsBeyondCodes board c
 game_depths board lawful y o c pair known =

@@ -1,4 +1,4 @@
--- The summaries of captures that are kept by the stones that are left.
+-- The cached summaries of captures, by the stones that are left.
 use Rattle.std.proofs.Common.{◌≡◌, ℕ, ◌<◌, ◌≤◌, Bool, true, false, not, ◌&&◌, ltb, List, [], ◌∷◌, ◌++◌, map, slice_index, filter, replicate, Some, refl, sym, ap, ◌∙◌, inl, inr, arith}
 use Rattle.std.proofs.lemmas.Bool.{cases_eq, both_ways, ne_eqb}
 use Rattle.std.proofs.lemmas.List.{flat_map_more, map-append}

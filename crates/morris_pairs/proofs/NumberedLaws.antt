@@ -1,5 +1,5 @@
--- The moves of a position, from what is kept of its own stones by the numbers of the points that
--- they leave free.
+-- The moves of a position, from the row of its own stones by the numbers of the points that they
+-- leave free.
 use Rattle.std.proofs.Common.{◌≡◌, ℕ, zero, suc, ◌+◌, ◌*◌, ◌/◌, ◌%◌, ◌<◌, ◌≤◌, ◌^◌, Bool, true, false, not, ◌&&◌, ◌||◌, cond, eqb, ltb, List, [], ◌∷◌, map, length, filter, refl, sym, ap, ap₂, subst, ◌∙◌, inl, inr, arith}
 use Rattle.std.proofs.lemmas.Bool.{cases_Bool, cases_eq, both_ways, eq-eqb, ne_eqb, and_parts, and_from, not-true, false_from_ne_true, ltb-true}
 use Rattle.std.proofs.lemmas.List.Sums.{sum_by-cons}
@@ -26,7 +26,7 @@ use Rattle.morris_pairs.specs.declared.numbered_row.SmallCounts.{SmallCounts}
 use Rattle.morris_pairs.proofs.RowLaws.{arrivals-most, quiet_by_row}
 use Rattle.morris_pairs.proofs.CaptureLaws.{some_closing}
 
--- ---- what is kept, one point more
+-- ---- the row, one point more
 
 module _ (own : ℕ) where
   abbrev number : ℕ → ℕ
@@ -190,7 +190,7 @@ sum_digits counts (k ∷ ks) =
       sum_by-cons (count_at counts) k ks,
     )
 
--- ---- what it tells of a position
+-- ---- what it says of a position
 
 -- the numbers of a place in a row of entries are those of its position
 pub are_numbers : (b : Shape) (n : ℕ) (row : InRow) (place own list : ℕ) (s : Sides) → own ≡ row.own → IsInRow b n row place s

@@ -158,7 +158,7 @@ module _ (board : Shape) (few : board.points ≤ 24) (y : HasSymmetries board) w
           (s, at_class_entry i c.lesser c.greater s found.1 found.2 of index)
     ]
 
-    -- in rows, the position of a class, or the one that is turned to it
+    -- in rows, the position of a class, or the one that has its sides swapped
     row_position_at : (i : ℕ) → i < row_size_of board board.points c → (s : Sides) × IsAtNode board Rows c i s
     row_position_at i low = elim (cases_lt i (class_half_size board board.points c.greater c.lesser)) [
       | inl first ↦

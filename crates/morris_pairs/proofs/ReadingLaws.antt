@@ -184,13 +184,13 @@ before_room_ok : (board : Shape) (h : Header) (kind found : Layout × Counts) �
 before_room_ok board h (Full, pair) found passed = rw passed refl
 before_room_ok board h (Classes, pair) found passed = refl
 
--- room is refused where a heading isn't that of layout Full, after the steps before
+-- room is refused where a header isn't that of layout Full, after the steps before
 pub room_refused : (board : Shape) (h : Header) (l : Layout) (pair : Counts) → Ok (l, pair) ≡ kind_in board h → (l ≡ Full → ⊥) → IsOk (roomless_in board h)
 unfolding roomless_in
 room_refused board h Full pair passed other = absurd (other refl)
 room_refused board h Classes pair passed other = rw (← passed) refl
 
--- a heading that is accepted passes the steps before room is taken
+-- a header that is accepted passes the steps before room is taken
 pub roomless_of : (board : Shape) (h : Header) (kind : Layout × Counts) → check_header board h ≡ Ok kind → IsOk (roomless_in board h)
 unfolding check_header roomless_in
 roomless_of board h kind named = from (kind_in board h) named

@@ -20,7 +20,7 @@ use Rattle.morris_pairs.proofs.GraphLaws.{size_at}
 use Rattle.morris_pairs.proofs.PositionLaws.{position_of_node}
 use Rattle.morris_pairs.proofs.RowNodeLaws.{first_first_half, index-to_first_half}
 
--- that of an entry, from a stretch of the codes in which it is
+-- that of an entry, from a range of the codes in which it is
 module _ (board : Shape) (n : ℕ) (c : Counts) (nodes chunk written rest : List ℕ) (half start offset len many k : ℕ) where
   pub code-in_chunk : AreCodesFrom board n c nodes (half + start) len chunk → offset < len → start + offset ≡ k → k < many → k < length written
       → get_or chunk offset 0 ≡ get_or written k 0 → IsEntryCode board n c nodes (half + k) (get_or (take many (written ++ rest)) k 0)
@@ -34,7 +34,7 @@ module _ (board : Shape) (n : ℕ) (c : Counts) (nodes chunk written rest : List
 module _ (board : Shape) (lawful : is_board board ≡ true) (y : HasSymmetries board) (n : ℕ) (few : n ≤ 24) (points : board.points ≡ n) (c : Counts) (pair : IsPair n c)
     (two : c.lesser < c.greater) (nodes second_half : List ℕ) (split : ℕ) (is : split ≡ class_half_size board n c.greater c.lesser) (fits : split ≤ length nodes)
     (some : ℕ) (all : split + some ≡ count_in board n Classes c) (second : AreCodesFrom board n c nodes (class_half_size board n c.greater c.lesser) some second_half) where
-  -- those of the first half are those of as many nodes, and those of the second stand behind them
+  -- those of the first half are those of as many nodes, and those of the second half follow them
   both_halves : AreCodesFrom board n c nodes 0 (count_in board n Classes c) (take split nodes ++ second_half)
   both_halves k low s h of own at = elim (cases_lt k split) [
     | inl l ↦

@@ -1,4 +1,4 @@
--- The results of a position and those of an image of it tell the same code, where the table states
+-- The results of a position and those of an image of it give the same code, where the table states
 -- the same codes for their quiet results.
 use Rattle.std.proofs.Common.{◌≡◌, ℕ, zero, suc, ◌≤◌, Bool, true, Option, Some, None, is_none, get_or, refl, sym, ap, subst, ◌∙◌, inl, inr}
 use Rattle.std.proofs.lemmas.Bool.{cases_Bool, false≢true}
@@ -112,8 +112,8 @@ own_after : (s : Sides) (m : Move) → is_quiet m ≡ true → (result_of s m).o
 unfolding result_of
 own_after s m quiet = left_whole s.other m.taken quiet
 
--- Where the way back from the image of a position leads the opponent's stones to the representative
--- on which they stand, both have one code by their results.
+-- Where the inverse of a symmetry is the canonicalizing one of the image of the opponent's stones,
+-- which are in canonical form themselves, a position and its image have one code by their results.
 pub same_code_after : (board : Shape) → is_board board ≡ true → HasSymmetries board → (t : Table) → t.layout ≡ Classes
     → (s : Sides) → IsPosition board s → is_of t.pair s ≡ true → (k : ℕ) → IsInTransversal board s k
     → code_from (result_codes board t (image_sides (board.image k) s)) ≡ code_from (result_codes board t s)

@@ -1,4 +1,4 @@
--- The quiet moves of a position, from what is kept of its own stones.
+-- The quiet moves of a position, from the row of its own stones.
 use Rattle.std.proofs.Common.{◌≡◌, ℕ, zero, suc, ◌+◌, ◌^◌, ◌<◌, ◌≤◌, true, false, Bool, not, ◌&&◌, ◌||◌, cond, ltb, eqb, List, [], ◌∷◌, ◌++◌, length, filter, slice_index, slice_set, refl, sym, ap, ap₂, subst, ◌∙◌, inl, inr, arith, length-append}
 use Rattle.std.proofs.lemmas.Bool.{cases_Bool, cases_eq, cases_lt, both_ways, lt-ltb, le-ltb, eq-eqb, eqb-true, ne_eqb, not-true}
 use Rattle.std.proofs.lemmas.Grind.{get_or-set_at}
@@ -158,7 +158,7 @@ module _ (b : Shape) (s : Sides) where
           ∙ (total-add (arriving (members s.own)) (where_ (has s.other) (arrivals b s.own)) n
           ∙ total-same (λ v. arriving (members s.own) v + where_ (has s.other) (arrivals b s.own) v) (arrivals b s.own) n at_point)
 
--- ---- what the loops keep
+-- ---- what stays true in the loops
 
 module _ (b : Shape) (own : ℕ) where
   pub arrivals-own : (v : ℕ) → has own v ≡ true → arrivals b own v ≡ 0

@@ -126,7 +126,7 @@ module _ (board : Shape) (n : ℕ) (few : n ≤ 24) (points : board.points ≡ n
 
   -- ---- the position before a quiet move, in which the other player is to move
 
-  -- with as many stones as the position after it, turned
+  -- with as many stones as the position after it, its sides swapped
   pub prior_of : (p q : Sides) → is_of c p ≡ true → count_of q.own ≡ count_of p.other → count_of q.other ≡ count_of p.own → is_of c q ≡ true
   prior_of p q of own other = rw (own, other) (turned_of c p of)
 
@@ -156,13 +156,13 @@ module _ (board : Shape) (n : ℕ) (few : n ≤ 24) (points : board.points ≡ n
         let low : board.points ≤ 24 = omega arith in
         index-to_first_half (image_sides (board.image s) q) image_in_pair (is_first_half-image board low y s s_low q h ∙ e)
 
--- ---- the symmetries that carry a move
+-- ---- the symmetries that give un-moves
 
 module _ (board : Shape) (n : ℕ) (few : n ≤ 24) (points : board.points ≡ n) (y : HasSymmetries board) where
   low : board.points ≤ 24
   low = omega arith
 
-  -- a symmetry leads a set where it takes it to the representative
+  -- a symmetry canonicalizes a set where it takes it to its canonical form
   pub leading_test : (set s : ℕ) → set < 2 ^ board.points → s < board.symmetries
       → eqb (image_of (board.image s) set) (image_of (board.image (symmetry_of board set)) set) ≡ is_canonicalizing board set s
   unfolding representative_of
@@ -183,7 +183,7 @@ module _ (board : Shape) (n : ℕ) (few : n ≤ 24) (points : board.points ≡ n
   unfolding inverse_of
   inverse_none = refl
 
-  -- a representative stays where it is under just one symmetry of those whose way back leads it
+  -- a canonical form stays where it is under just one symmetry of its transversal
   module _ (p : Sides) (within : p.own < 2 ^ board.points) (least : representative_of board p.own ≡ p.own) where
     canonical_none : symmetry_of board p.own ≡ 0
     canonical_none = ap (symmetry_of board) (sym least) ∙ representative_symmetry board low y p.own within
@@ -207,8 +207,8 @@ module _ (board : Shape) (n : ℕ) (few : n ≤ 24) (points : board.points ≡ n
     only_none = only_first (gives_unmove board p p.own) board.symmetries y.some none_carries others_not
 
   module _ (c : Counts) (p : Sides) (u v : ℕ) where
-    -- where the player to move has more stones, the move is carried by the symmetry alone that moves
-    -- no point
+    -- where the player to move has more stones, the symmetry alone that moves no point gives an
+    -- un-move
     pub before-in_row : IsPosition board p → own_in board Rows p ≡ true → is_first_half p ≡ true
         → IsPosition board (unmove_sides p u v) → is_first_half (unmove_sides p u v) ≡ false
         → predecessors_in_rows board n c p u v ≡ row_index_of board n c (unmove_sides p u v) ∷ []
@@ -222,7 +222,7 @@ module _ (board : Shape) (n : ℕ) (few : n ≤ 24) (points : board.points ≡ n
         ap (map (λ s. row_index_of board n c (image_sides (board.image s) (unmove_sides p u v)))) carrying
         ∙ ap (λ (w : Sides). row_index_of board n c w ∷ []) (image_of_none (unmove_sides p u v) k.stones.own_within k.stones.other_within)
 
-    -- where the opponent has, by those that carry the moves of the opponent's set
+    -- where the opponent has, those that give un-moves of the opponent's set
     pub before-carried : is_first_half p ≡ false → is_first_half (unmove_sides p u v) ≡ true
         → predecessors_in_rows board n c p u v
         ≡ map (λ s. row_index_of board n c (image_sides (board.image s) (unmove_sides p u v)))

@@ -1,5 +1,5 @@
--- The nodes before a position of a row are found from the moves that led to the row's stones from
--- anywhere, without those from points on which the other side stands.
+-- The predecessors of a position of a row are found from the un-moves of the row's stones, without
+-- those from points on which the other side stands.
 use Rattle.std.proofs.Common.{◌≡◌, ℕ, suc, ◌+◌, ◌<◌, ◌≤◌, ◌^◌, Bool, true, false, not, ◌&&◌, ◌||◌, cond, eqb, ltb, List, [], ◌∷◌, ◌++◌, length, map, filter, None, refl, sym, ap, ap₂, subst, ◌∙◌, inl, inr, arith, append_assoc, take, get_or}
 use Rattle.std.proofs.lemmas.Bool.{and_parts, and_from, eq-eqb, lt-ltb, ltb-true, le-leb, lt-leb, not-true}
 use Rattle.std.proofs.lemmas.List.{append-nil, map-append, flat_map_more, take_more}
@@ -37,7 +37,7 @@ use Rattle.morris_pairs.specs.declared.row_unmoves.RowUnmove.{RowUnmove}
 use Rattle.morris_pairs.specs.RowUnmoves.{may_have_come, gives_unmove_of, Unmove, unmove_by, unmoves_from, unmoves_at, unmoves_into, predecessor_by, comes_free, nodes_by, unmove_of, IsRowUnmove, AreRowUnmoves, AddsUnmoves}
 use Rattle.morris_pairs.proofs.RowStepLists.{flat_map-contained, flat_map-twice, through_joins, flat_map-mapped, filter-mapped, map-mapped, same_joins, filter-none, filter-same, filter-const, map-cond, same_where}
 
--- ---- the nodes of moves that are joined
+-- ---- the predecessors by several lists of un-moves
 
 module _ (b : Shape) (n : ℕ) (c : Counts) (p : Sides) where
   pub nodes_none : nodes_by b n c p [] ≡ []
@@ -131,7 +131,7 @@ module _ (b : Shape) (low : b.points ≤ 24) (y : HasSymmetries b) (c : Counts) 
       (λ v. nodes_by b b.points c p (unmoves_at b p.other v)) (members p.other) (λ v at. into v (has-member p.other v at))
       ∙ sym (through_joins (nodes_by b b.points c p) (nodes_none b b.points c p) (nodes_joined b b.points c p) (unmoves_at b p.other) (members p.other))
 
--- where the opponent has more stones, the nodes before a position are those of the moves that led to
+-- where the opponent has more stones, the predecessors of a position are those by the un-moves of
 -- the opponent's stones from vacant points
 pub leading_by_unmoves : (b : Shape) (n : ℕ) (few : n ≤ 24) (points : b.points ≡ n) (y : HasSymmetries b) (c : Counts) (pair : IsPair n c) (two : c.lesser < c.greater)
     (p : Sides) (h : IsPosition b p) (of : is_of c p ≡ true) (second_half : is_first_half p ≡ false)
@@ -140,16 +140,16 @@ leading_by_unmoves b n few points y c pair two p h of second_half =
     subst (λ k. predecessors_in Rows b k c p (unmoves_to b p k (members p.other)) ≡ nodes_by b k c p (unmoves_into b p.other)) points
     (leading_here b (omega arith) y c (subst (λ k. IsPair k c) (sym points) pair) two p h of second_half)
 
--- ---- which symmetries carry a move
+-- ---- which symmetries give un-moves
 
--- a symmetry leads a set where it takes it to the representative
+-- a symmetry canonicalizes a set where it takes it to its canonical form
 module _ (b : Shape) (n : ℕ) (few : n ≤ 24) (points : b.points ≡ n) (y : HasSymmetries b) (mover s image least : ℕ) (within : mover < 2 ^ n) (s_low : s < b.symmetries)
     (e : image ≡ image_of (b.image s) mover) (f : least ≡ representative_of b mover) where
   pub leads_to_least : eqb image least ≡ is_canonicalizing b mover s
   unfolding representative_of
   leads_to_least = ap₂ (λ x z. eqb x z) e f ∙ leading_test b n few points y mover s (subst (λ m. mover < 2 ^ m) (sym points) within) s_low
 
--- ---- a move that is taken back
+-- ---- an un-move
 
 module _ (stones n v u : ℕ) (few : n ≤ 24) (within : stones < 2 ^ n) (there : has stones v ≡ true) (low : u < n) (vacant : has stones u ≡ false) where
   pub end_low : v < 32
@@ -189,7 +189,7 @@ module _ (b : Shape) (n : ℕ) (c : Counts) (stones other : ℕ) where
   pub kept_at_end : (unmoves : List RowUnmove) → AddsUnmoves b n c stones other (unmoves_into b stones) [] unmoves → AreRowUnmoves b n c stones other unmoves
   kept_at_end unmoves adds = record { listed = adds.listed; each = adds.each (λ k d low. absurd (omega arith)) }
 
--- the symmetries below a number that carry a move
+-- the un-moves that symmetries below a number give
 abbrev pub carried_below : Shape → ℕ → ℕ → ℕ → ℕ → List Unmove
 carried_below b stones v u k = map (unmove_by v u) (filter (gives_unmove_of b stones (move_stone stones v u)) (range_with_len 0 k))
 
@@ -283,7 +283,7 @@ module _ (n : ℕ) (c : Counts) (pair : IsPair n c) (two : c.lesser < c.greater)
   pub is_second_half_swapped : is_first_half (swap_sides s) ≡ false
   is_second_half_swapped = lt-leb (count_of s.own) (count_of s.other) (omega (arith, greater, lesser_count, two))
 
--- ---- the nodes by what is kept
+-- ---- the predecessors by the un-moves of a row
 
 module _ (b : Shape) (n : ℕ) (few : n ≤ 24) (points : b.points ≡ n) (y : HasSymmetries b) (fewer : b.symmetries ≤ 16) (c : Counts) (pair : IsPair n c)
     (two : c.lesser < c.greater) (s : Sides) (h : IsPosition b s) (of : is_of c s ≡ true) (greater : count_of s.own ≡ c.greater) where
@@ -349,7 +349,7 @@ module _ (b : Shape) (n : ℕ) (few : n ≤ 24) (points : b.points ≡ n) (y : H
           ap (class_index_of b n c) same_sides
           ∙ sym (image_index b n few points y c pair two prior prior_is prior_pair prior_is_first_half row_unmove.symmetry low_symmetry)
 
-  -- the end of the loop over what is kept
+  -- the end of the loop over the un-moves
   module _ (least : representative_of b s.own ≡ s.own) (unmoves : List RowUnmove) (cache : AreRowUnmoves b n c s.own c.lesser unmoves) where
     pub added_by_unmoves : (old new : List ℕ) → new ≡ old ++ nodes_by b n c (swap_sides s) (map unmove_of unmoves) → AddsPredecessorsIn Rows b n c (swap_sides s) old new
     added_by_unmoves old new follows =
@@ -368,7 +368,7 @@ module _ (b : Shape) (n : ℕ) (few : n ≤ 24) (points : b.points ≡ n) (y : H
           few = omega (arith, all.few, fewer);
         }
 
--- ---- what is kept of a move that a symmetry carries
+-- ---- the record of an un-move
 
 module _ (b : Shape) (n : ℕ) (few : n ≤ 24) (points : b.points ≡ n) (y : HasSymmetries b) (c : Counts) (stones v u : ℕ) (within : stones < 2 ^ n)
     (count : count_of stones ≡ c.greater) (there : has stones v ≡ true) (low : u < n) (vacant : has stones u ≡ false)
@@ -401,7 +401,7 @@ module _ (b : Shape) (n : ℕ) (few : n ≤ 24) (points : b.points ≡ n) (y : H
       stands = subst (IsCanonicalStanding b n c c.lesser) (sym same) stands;
     }
 
--- ---- the loop over what is kept
+-- ---- the loop over the un-moves
 
 module _ (b : Shape) (n : ℕ) (c : Counts) (p : Sides) (unmoves : List RowUnmove) (i : ℕ) (row_unmove : RowUnmove) (low : i < length unmoves) (is : row_unmove ≡ get_or unmoves i row_unmove)
     (old out : List ℕ) (before_it : out ≡ old ++ nodes_by b n c p (map unmove_of (take i unmoves))) where

@@ -1,4 +1,4 @@
--- Laws of lists that are filtered, mapped and joined.
+-- Laws of lists that are filtered, mapped and concatenated.
 use Rattle.std.proofs.Common.{◌≡◌, ℕ, zero, suc, ◌+◌, ◌<◌, ◌≤◌, Bool, true, false, cond, List, [], ◌∷◌, ◌++◌, map, filter, refl, sym, ap, ap₂, ◌∙◌, inl, inr, arith}
 use Rattle.std.proofs.lemmas.Bool.{cases_Bool}
 use Rattle.std.proofs.lemmas.Grind.{flat_map-append}
@@ -48,8 +48,8 @@ range_same f g a zero same = refl
 range_same f g a (suc n) same =
     ap₂ (λ s t. s ++ t) (same a (omega arith) (omega arith)) (range_same f g (a + 1) n (λ k low high. same k (omega arith) (omega arith)))
 
--- two lists that are joined of the numbers below n that pass a test: they are the same if they are
--- so at each number, where one that fails stands for none
+-- two concatenations of lists of the numbers below n that pass a test: they are the same if they
+-- are so at each number, where one that fails stands for none
 pub same_joins : {Y : Type 0} (p q : ℕ → Bool) (f g : ℕ → List Y) (n : ℕ)
     → ((k : ℕ) → k < n → cond {A = List Y} (p k) (f k) [] ≡ cond {A = List Y} (q k) (g k) [])
     → flat_map f (filter p (range_with_len 0 n)) ≡ flat_map g (filter q (range_with_len 0 n))

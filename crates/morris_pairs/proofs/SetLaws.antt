@@ -1,4 +1,4 @@
--- The moves of a position, from what is kept of the set of its own stones.
+-- The moves of a position, from those of the set of its own stones in a table.
 use Rattle.std.proofs.Common.{◌≡◌, ℕ, ◌+◌, ◌^◌, ◌<◌, ◌≤◌, cond, eqb, List, [], ◌∷◌, length, filter, refl, sym, ap, ap₂, subst, ◌∙◌, inl, inr, arith}
 use Rattle.std.proofs.lemmas.Bool.{cases_eq, eq-eqb, ne_eqb}
 use Rattle.std.proofs.lemmas.List.Sums.{sum_by-cons}
@@ -18,7 +18,7 @@ use Rattle.morris_pairs.specs.Rows.{arrivals}
 use Rattle.morris_pairs.specs.SetMoves.{IsSetTabled}
 use Rattle.morris_pairs.proofs.RowLaws.{arrivals-most, quiet_by_row}
 
--- counts that are kept of the points below k, one point more
+-- counts of the points below k, one point more
 module _ (f tabled next : ℕ → ℕ) (k x : ℕ) (each : (v : ℕ) → next v ≡ tabled v + cond (eqb v k) x 0) (none : (v : ℕ) → k ≤ v → tabled v ≡ 0) where
   pub counted_more : x ≡ f k → ((v : ℕ) → v < k → tabled v ≡ f v) → (v : ℕ) → v < k + 1 → next v ≡ f v
   counted_more is before v low = elim (cases_eq v k) [

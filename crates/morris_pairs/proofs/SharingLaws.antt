@@ -1,4 +1,4 @@
--- What marks of stretches come to, and what rounds do.
+-- What marks of chunks come to, and what rounds do.
 use Rattle.std.proofs.Common.{◌≡◌, ℕ, ◌+◌, ◌-◌, ◌*◌, ◌/◌, ◌<◌, ◌≤◌, Bool, true, false, List, slice_index_or, Option, inl, inr, arith}
 use Rattle.std.proofs.lemmas.Bool.{cases_lt}
 use Rattle.morris_board.specs.Boards.{Shape}
@@ -8,7 +8,7 @@ use Rattle.morris_pairs.specs.Chunks.{AreMarked, IsAsAsked}
 use Rattle.morris_pairs.specs.Tables.{Table}
 
 module _ {A : Type 0} (board : Shape) (n : ℕ) (t : Table) (grouping : Option A) (first : ℕ) where
-  -- the entries of the stretches before the first one without a mark
+  -- the entries of the chunks before the first one without a mark
   pub marked-known : (marks : List Bool) (many : ℕ) → AreMarked board n t grouping first marks → ((i : ℕ) → i < many → slice_index_or marks i false ≡ true)
       → (k : ℕ) → first * 4096 ≤ k → k < (first + many) * 4096 → k < entry_count board n t.layout t.pair → IsAsAsked board t grouping k
   marked-known marks many marked set k from low inside =

@@ -1,4 +1,4 @@
--- The summary of a list of codes tells only which codes the list has: neither their order counts,
+-- The summary of a list of codes says only which codes the list has: neither their order counts,
 -- nor how often each is there.
 use Rattle.std.proofs.Common.{◌≡◌, ℕ, ◌-◌, ◌≤◌, min, max, Bool, true, List, [], ◌∷◌, Some, None, map, filter, refl, ap, subst, ◌∙◌, sym, inl, inr, eqb, arith}
 use Rattle.std.proofs.lemmas.Bool.{cases_lt}

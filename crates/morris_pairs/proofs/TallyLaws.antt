@@ -23,7 +23,7 @@ le_greatest [] i inside = absurd (omega arith)
 le_greatest (code ∷ codes) zero inside = omega arith
 le_greatest (code ∷ codes) (suc i) inside = omega (arith, le_greatest codes i (omega arith))
 
--- what a turn of the counting loop does
+-- what a pass of the counting loop does
 pub count_more : (codes tallies : List ℕ) (i code : ℕ) → i < length codes → code ≡ get_or codes i 0 → code < length tallies
     → ((k : ℕ) → k < length tallies → get_or tallies k 0 ≡ times k (take i codes)) → (k : ℕ) → k < length tallies
     → get_or (set tallies code (get_or tallies code 0 + 1)) k 0 ≡ times k (take (i + 1) codes)

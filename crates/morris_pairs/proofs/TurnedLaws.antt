@@ -47,7 +47,7 @@ module _ (board : Shape) (lawful : is_board board ≡ true) (y : HasSymmetries b
   pub first_same : (n : ℕ) → board.points ≡ n → (i : ℕ) → i < class_half_size board n c.greater c.lesser → quiet_in i
   first_same n points = subst (λ m. (i : ℕ) → i < class_half_size board m c.greater c.lesser → quiet_in i) points first_here
 
--- ---- a node of the second half is such an entry with its sides turned
+-- ---- a node of the second half is such an entry with its sides swapped
 
 module _ (board : Shape) (lawful : is_board board ≡ true) (y : HasSymmetries board) (n : ℕ) (few : n ≤ 24) (points : board.points ≡ n) (c : Counts) (pair : IsPair n c)
     (two : c.lesser < c.greater) (s : Sides) (h : IsPosition board s) (of : is_of c s ≡ true) (greater : count_of s.own ≡ c.greater)

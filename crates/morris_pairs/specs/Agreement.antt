@@ -28,14 +28,14 @@ abbrev pub code_from : List ℕ → ℕ
 code_from codes = code_above (exits_of codes)
 
 -- The code of what a move leads to. A quiet move stays in the pair, and its code is the one that
--- the list states. That of a capture is the game's, searched up to a depth of 65,534.
+-- the table states. That of a capture is the game's, searched up to a depth of 65,534.
 unfoldable pub stated_code : Shape → Table → Sides → Move → ℕ
 stated_code board t s m = if is_quiet m then slice_index t.codes (entry_index board board.points t.layout t.pair (result_of s m)) else code_to 65534 board (result_of s m)
 
 unfoldable pub result_codes : Shape → Table → Sides → List ℕ
 result_codes board t s = map (stated_code board t s) (moves_of board s)
 
--- the codes that the list states for what the quiet moves among some moves lead to
+-- the codes that the table states for what the quiet moves among some moves lead to
 unfoldable pub quiet_codes : Shape → Table → Sides → List Move → List ℕ
 quiet_codes board t s moves = map (λ m. slice_index t.codes (entry_index board board.points t.layout t.pair (result_of s m))) (filter is_quiet moves)
 

@@ -15,7 +15,7 @@ use Rattle.morris_pairs.specs.Shelves.{Stored, first_missing}
 use Rattle.morris_pairs.specs.Tables.{Table, IsTable}
 
 -- What is built: the exact table of the pair in the layout. Codes of 16 bits suffice for the pair,
--- as its graph counts and in the words of the game.
+-- by its graph and by the rules of the game.
 pub record IsBuilt (board : Shape) (l : Layout) (c : Counts) (t : Table) : Type 0 where
   pub pair : t.pair ≡ c
   pub layout : t.layout ≡ l

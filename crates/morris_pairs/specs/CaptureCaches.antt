@@ -1,4 +1,4 @@
--- What captures lead to, by the set of stones that they leave the opponent, and what is kept of it.
+-- What captures lead to, by the stones before and after them, and the cache of it.
 use Rattle.std.specs.Prelude.{◌≡◌, ℕ, ◌<◌, not, ◌&&◌, List, map}
 use Rattle.std.specs.List.{All, flat_map}
 use Rattle.morris_board.specs.Boards.{Shape}
@@ -26,8 +26,8 @@ unfoldable pub codes_left : Shape → ℕ → ℕ → List ℕ
 codes_left board own left =
     flat_map (λ v. map (λ u. code_to 65534 board (sides left (move_stone own u v))) (members (closers_at board own v))) (members (open_ends board own left))
 
--- The codes of what the captures from `stones` lead to after which these face `opponent_set`: one for
--- each stone that may be taken.
+-- The codes of what the captures of `stones` lead to that make `opponent_set` the opponent's set of
+-- the results: one for each stone that may be taken.
 unfoldable pub codes_by_opponent : Shape → ℕ → ℕ → List ℕ
 codes_by_opponent board stones opponent_set = map (λ t. code_to 65534 board (sides (without_point stones t) opponent_set)) (members (takable_stones board stones))
 

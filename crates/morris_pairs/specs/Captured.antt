@@ -13,18 +13,18 @@ use Rattle.morris_pairs.specs.declared.layout.Layout.{Layout}
 use Rattle.morris_pairs.specs.declared.layout.Layout.TheVariants.{Full, Classes}
 use Rattle.morris_pairs.specs.Tables.{Table}
 
--- what is kept of the stones of the player to move, on n points, in a layout
+-- where the entries with these own stones stand, on n points, in a layout
 abbrev pub IsStandingIn : Shape → ℕ → Layout → Counts → ℕ → Standing → Type 0
 IsStandingIn board n Full c other standing = IsStanding n c other standing
 IsStandingIn board n Classes c other standing = IsCanonicalStanding board n c other standing
 
--- After a capture the other player is to move, has one stone less, and faces as many stones as
--- moved: the pair of all results.
+-- After a capture the other player is to move and has one stone less, and the player who moved has
+-- as many as before: the pair of all results.
 abbrev pub captured_pair : Sides → Counts
 captured_pair s = sort_counts (count_of s.other - 1) (count_of s.own)
 
--- What is kept of a stone of the opponent that may be taken: where the results stand in their
--- table, in which the player to move has the other stones.
+-- A stone of the opponent's may be taken, and the standing is where the results stand in their
+-- table, in which the player to move has the stones that are left.
 pub record IsLeft (board : Shape) (n : ℕ) (s : Sides) (t : Table) (taken : ℕ) (standing : Standing) : Type 0 where
   pub takes : has (takable_stones board s.other) taken ≡ true
   pub own : standing.own ≡ without_point s.other taken

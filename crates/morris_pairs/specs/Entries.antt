@@ -12,12 +12,13 @@ use Rattle.morris_pairs.specs.Orders.{order_of, count_in, index_in, own_in}
 abbrev pub entry_count : Shape → ℕ → Layout → Counts → ℕ
 entry_count board n l c = count_in board n (order_of l) c
 
--- The index of the entry that tells a position's value. Full: the position's own. Classes: that of
--- the position to which it is led by the symmetry of the set of the player to move.
+-- The index of the entry that states a position's value. Full: the position's own. Classes: that of
+-- the position's canonical form, the image under the canonicalizing symmetry of the set of the
+-- player to move.
 abbrev pub entry_index : Shape → ℕ → Layout → Counts → Sides → ℕ
 entry_index board n l c s = index_in board n (order_of l) c s
 
--- Whether a position has an entry of its own. Full: each has. Classes: those in which the player to
--- move stands on the representative of a class.
+-- Whether a position has an entry of its own. Full: each has. Classes: those in which the set of
+-- the player to move is in canonical form.
 abbrev pub has_own_entry : Shape → Layout → Sides → Bool
 has_own_entry board l s = own_in board (order_of l) s

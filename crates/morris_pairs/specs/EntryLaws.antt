@@ -53,7 +53,7 @@ laid-full board few c = record {
   stands = λ s h of. (s, record { position = h; of = of; own = refl; entry = refl; image = inl refl; one_value = record { lost = λ n. refl; won = λ n. refl } });
 }
 
--- ---- positions that are led
+-- ---- canonical forms of positions
 
 -- a position of a pair has as many stones as a position may have
 pub is_sized-is_of : (n : ℕ) (c : Counts) (s : Sides) → IsPair n c → is_of c s ≡ true → is_sized s ≡ true
@@ -73,14 +73,15 @@ position_of board c s pair h of = record {
   sized = is_sized-is_of board.points c s pair of;
 }
 
--- the image of a position under the symmetry of the set that leads it: the own one, once the
--- position is turned
+-- the canonical form of a position: its image under the canonicalizing symmetry of one of its sets,
+-- the own one once `turn` is applied
 abbrev pub canonical_by : Shape → (Sides → Sides) → Sides → Sides
 canonical_by board turn s = image_sides (board.image (symmetry_of board (turn s).own)) s
 
--- An order in which positions are led: the image of a set that leads a position leads the image of
--- the position; the number is the own one of positions in which this set is a representative; and
--- just the positions that are led to one have one number, that of this one.
+-- An order by canonical forms: `turn` makes one of a position's sets the own one, and an image of
+-- the position has the image of this set; the number is the own one of positions in which this set
+-- is in canonical form; and just the positions that have one canonical form have one number, that
+-- of this form.
 pub record IsCanonicalBy (board : Shape) (o : Order) (c : Counts) (turn : Sides → Sides) : Type 0 where
   pub within : (s : Sides) → IsPosition board s → (turn s).own < 2 ^ board.points
   pub image : (k : ℕ) → k < board.symmetries → (s : Sides) → IsPosition board s
@@ -93,7 +94,7 @@ pub record IsCanonicalBy (board : Shape) (o : Order) (c : Counts) (turn : Sides 
       → index_in board board.points o c (canonical_by board turn s) ≡ index_in board board.points o c s
 
 module _ (board : Shape) (few : board.points ≤ 24) (y : HasSymmetries board) (o : Order) (c : Counts) (turn : Sides → Sides) (laws : IsCanonicalBy board o c turn) where
-  -- a position whose number is its own is led to itself
+  -- a position whose number is its own is its own canonical form
   pub canonical_none : (s : Sides) → IsPosition board s → own_in board o s ≡ true → canonical_by board turn s ≡ s
   canonical_none s h own =
       let least : representative_of board (turn s).own ≡ (turn s).own = eqb-true _ _ (sym (laws.own s) ∙ own) in

@@ -1,12 +1,12 @@
--- Laws of lists that a test filters: lists that are joined end to end, the one number of a range
--- that passes, and a list in two parts.
+-- Laws of lists that a test filters: concatenations of lists, the one number of a range that
+-- passes, and a list in two parts.
 use Rattle.std.proofs.Common.{◌≡◌, ℕ, zero, suc, ◌+◌, ◌<◌, ◌≤◌, Bool, true, false, not, ◌&&◌, ◌||◌, List, [], ◌∷◌, ◌++◌, append-nil, map, filter, length, refl, ap, subst, ◌∙◌, inl, inr, arith}
 use Rattle.std.proofs.lemmas.Bool.{cases_Bool, cases_eq}
 use Rattle.std.proofs.lemmas.List.Elements.{filter-append, filter_passes, All-contains, All-contains_itself, All-weaker}
 use Rattle.std.specs.List.{All, Contains, flat_map, list_all, list_any, range_with_len}
 use Rattle.morris_moves.proofs.ListLaws.{Contains-head, Contains-tail, Contains-cons_cases}
 
--- ---- lists that are joined end to end
+-- ---- concatenations of lists
 
 module _ {X Y : Type 0} where
   pub filter-flat_map : (p : Y → Bool) (f : X → List Y) (xs : List X) → filter p (flat_map f xs) ≡ flat_map (λ x. filter p (f x)) xs
@@ -41,7 +41,7 @@ module _ {Y : Type 0} (f : ℕ → List Y) where
   range_none a zero none = refl
   range_none a (suc n) none = rw (none a (omega arith) (omega arith)) (range_none (a + 1) n (λ j low high. none j (omega arith) (omega arith)))
 
-  -- what is joined over a range where all but one number give nothing
+  -- a concatenation over a range where all but one number give nothing
   pub range_one : (a n k : ℕ) → a ≤ k → k < a + n
       → ((j : ℕ) → a ≤ j → j < a + n → (j ≡ k → ⊥) → f j ≡ []) → flat_map f (range_with_len a n) ≡ f k
   range_one a zero k low high none = absurd (omega arith)

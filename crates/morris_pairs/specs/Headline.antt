@@ -1,8 +1,8 @@
 -- The first half of the headline: whenever a block's lock is free, each decided entry is the game's
 -- value and exact depth at its position and the tallies count the entries.
 --
--- A lock keeps its block in the state that the block's wave and its applied sources say. Here
--- stands what such a state says in the words of the game, at any wave and whatever is applied.
+-- A lock holds its block in the state that the block's wave and its applied sources say. Here
+-- stands what such a state says of the game, at any wave and whatever is applied.
 use Rattle.std.specs.Prelude.{◌≡◌, ℕ, ◌+◌, ◌<◌, Bool, true, ◌==◌, List, length, map}
 use Rattle.std.specs.List.{count_by, flat_map, range_with_len}
 use Rattle.morris_board.specs.Boards.{Shape}
@@ -16,8 +16,9 @@ use Rattle.morris_pairs.specs.Orders.{Order, order_of, index_in}
 use Rattle.morris_pairs.specs.Codes.{IsCodeOf}
 use Rattle.morris_pairs.specs.PairNets.{at_index, level_in, net_at}
 
--- A block of the graph of a pair: it is of the level of that graph, as the block itself tells, and
--- what every block keeps. The second is what a lock says of the block that it guards.
+-- A block of the graph of a pair: the block says itself that its level is that of the graph, and
+-- what holds of every block holds of it. The second is what a lock says of the block that it
+-- guards.
 pub record IsBlockIn (board : Shape) (o : Order) (c : Counts) (s : BlockState) : Type 0 where
   pub level : s.level ≡ level_in o c
   pub block : IsBlock (net_at board s.level) s
@@ -26,7 +27,7 @@ pub record IsBlockIn (board : Shape) (o : Order) (c : Counts) (s : BlockState) :
 abbrev pub IsBlockOf : Shape → Layout → Counts → BlockState → Type 0
 IsBlockOf board l c s = IsBlockIn board (order_of l) c s
 
--- the positions that have the block's entries for their own, in the order of these
+-- the positions whose own entries are those of the block, in the order of these
 abbrev pub positions_in : Shape → Order → Counts → BlockState → List Sides
 positions_in board o c s = flat_map (at_index board o c) (range_with_len (first_node s) (count_of s))
 

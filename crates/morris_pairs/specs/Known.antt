@@ -1,5 +1,5 @@
 -- What is known of the positions that the captures of a pair lead to, and what codes of 16 bits
--- can't tell of a pair.
+-- can't state of a pair.
 use Rattle.std.specs.Prelude.{◌≡◌, ℕ, ◌≤◌, ◌⊎◌, true}
 use Rattle.std.specs.List.{Contains}
 use Rattle.morris_board.specs.Boards.{Shape}

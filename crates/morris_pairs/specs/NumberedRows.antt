@@ -1,5 +1,4 @@
--- What the moves of the stones of one player are, by the numbers of the points that they leave
--- free.
+-- The moves of one player's stones, by the numbers of the points that they leave free.
 use Rattle.std.specs.Prelude.{◌≡◌, ℕ, ◌+◌, ◌*◌, ◌%◌, ◌<◌, Bool, false, if◌then◌else◌}
 use Rattle.morris_board.specs.Sets.{has}
 use Rattle.morris_board.specs.Boards.{Shape}
@@ -18,9 +17,9 @@ digit b = if b then 1 else 0
 unfoldable pub count_at : SmallCounts → ℕ → ℕ
 count_at counts v = digit (has counts.ones v) + 2 * digit (has counts.twos v) + 4 * digit (has counts.fours v) + 8 * digit (has counts.eights v)
 
--- What is kept of the own stones: what is kept by points, and the same by the numbers of the points
--- that they leave free. Of the arrivals at a point only what is over whole sixteens is kept: a
--- player has at most nine stones, so that is all of them.
+-- What a numbered row says of its own stones is right: by points, and by the numbers of the points
+-- that they leave free. It has the arrivals at a point modulo 16: a player has at most nine stones,
+-- so that is all of them.
 pub record IsNumbered (board : Shape) (n : ℕ) (cache : NumberedRow) : Type 0 where
   pub row : IsRow board n cache.row
   pub each : (v : ℕ) → v < n → has cache.row.own v ≡ false

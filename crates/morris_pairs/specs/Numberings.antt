@@ -1,5 +1,5 @@
--- How the entries of a pair are numbered, and what is kept for the entries after quiet moves, and
--- for those before.
+-- How the entries of a pair are numbered, and how the successors and predecessors of a position
+-- are.
 use Rattle.morris_index.specs.Pairs.{Counts}
 use Rattle.morris_index.specs.Moves.{InPair}
 use Rattle.morris_pairs.specs.declared.layout.Layout.{Layout}
@@ -20,7 +20,7 @@ abbrev pub pair_of : {B : Type 0} → Numbering B → Counts
 pair_of (numbering.Full pair) = pair
 pair_of (numbering.Classes pair) = pair
 
--- the layout in which the entries after a position are found, and the position in its pair
+-- the layout in which the successors of a position are found, and the position in its pair
 abbrev pub layout_after : {B : Type 0} → Successors B → Layout
 layout_after (successors.Full from) = layout.Full
 layout_after (successors.Classes from) = layout.Classes
@@ -29,7 +29,7 @@ abbrev pub position_before : {B : Type 0} → Successors B → InPair
 position_before (successors.Full from) = from
 position_before (successors.Classes from) = from
 
--- the layout in which the entries before a position are found, and the position in its pair
+-- the layout in which the predecessors of a position are found, and the position in its pair
 abbrev pub layout_before : {B : Type 0} → Predecessors B → Layout
 layout_before (predecessors.Full to) = layout.Full
 layout_before (predecessors.Classes to) = layout.Classes

@@ -1,5 +1,5 @@
--- What is known of a table by classes once the positions that face those of its entries were looked
--- at.
+-- What is known of a table by classes once the members that its entries give to groups by the
+-- opponent's set are verified.
 use Rattle.std.specs.Prelude.{◌≡◌, ℕ, true, List, map, slice_index}
 use Rattle.std.specs.List.{All}
 use Rattle.morris_board.specs.Boards.{Shape}
@@ -25,7 +25,7 @@ codes_stated board t group = map (code_stated board t) group
 abbrev pub EntryAgrees : Shape → Table → InPair → Type 0
 EntryAgrees board t q = Agrees board t (entry_index board board.points t.layout t.pair q.position)
 
--- the entries of all positions that face the one with entry k agree
+-- the entries of all members that entry k gives to its group agree
 abbrev pub GroupAgrees : Shape → Table → ℕ → Type 0
 GroupAgrees board t k =
     (p : Sides) → IsPosition board p → is_of t.pair p ≡ true → representative_of board p.own ≡ p.own

@@ -1,4 +1,4 @@
--- The quiet moves that lead to a position, looked at from it.
+-- The quiet moves that lead to a position, looked at from it: its un-moves.
 use Rattle.std.specs.Prelude.{◌≡◌, ℕ, ◌<◌, ◌≤◌, List, [], ◌∷◌, ◌++◌, length, map, filter, None}
 use Rattle.std.specs.List.{All, range_with_len, flat_map}
 use Rattle.morris_board.specs.Boards.{Shape}
@@ -23,28 +23,28 @@ moves_into board s v n = filter (has_come board s) (map (λ u. move u v None) (r
 unfoldable pub unmoves_to : Shape → Sides → ℕ → List ℕ → List Move
 unmoves_to board s n points = flat_map (λ v. moves_into board s v n) points
 
--- The numbers in rows of the positions before the quiet move to p from u to v, carried along by the
--- symmetries that lead the set which leads the position before it, and whose way back is the
--- symmetry that leads the image of p.
+-- The numbers in rows of the predecessors by the quiet move to p from u to v: one for each symmetry
+-- that takes the set of the side with more stones before the move to its canonical form, and that
+-- is in the transversal of this side's set in p.
 unfoldable pub predecessors_in_rows : Shape → ℕ → Counts → Sides → ℕ → ℕ → List ℕ
 predecessors_in_rows board n c p u v =
     map (λ s. row_index_of board n c (image_sides (board.image s) (unmove_sides p u v)))
     (filter (gives_unmove board (to_first_half p) (to_first_half (unmove_sides p u v)).own) (range_with_len 0 board.symmetries))
 
--- The nodes from which the quiet move to s from u to v leads to the node of s, on n points. Full:
--- that of the position before it. Classes and Rows: one for each symmetry that carries the move
--- along.
+-- The predecessors of the node of s by the quiet move to s from u to v, on n points. Full: that of
+-- the position before the move. Classes and Rows: one for each symmetry that gives an un-move.
 abbrev pub predecessors_by_in : Order → Shape → ℕ → Counts → Sides → ℕ → ℕ → List ℕ
 predecessors_by_in Full board n c s u v = index_of n c (unmove_sides s u v) ∷ []
 predecessors_by_in Classes board n c s u v = entry_predecessors board n c s u v
 predecessors_by_in Rows board n c s u v = predecessors_in_rows board n c s u v
 
--- the nodes from which these quiet moves lead to the node of s, each as often as it has such a move
+-- the predecessors of the node of s by these quiet moves, each as often as a move leads from it to
+-- the node
 unfoldable pub predecessors_in : Order → Shape → ℕ → Counts → Sides → List Move → List ℕ
 predecessors_in o board n c s moves = flat_map (λ m. predecessors_by_in o board n c s m.from m.to) moves
 
--- `new` is `old`, followed by the nodes from which a quiet move leads to the node of s, each as
--- often as it has such a move; these are at most 65,535
+-- `new` is `old`, followed by the predecessors of the node of s, each as often as a quiet move
+-- leads from it to the node; these are at most 65,535
 pub record AddsPredecessorsIn (o : Order) (board : Shape) (n : ℕ) (c : Counts) (s : Sides) (old new : List ℕ) : Type 0 where
   pub added : List ℕ
   pub follow : new ≡ old ++ added

@@ -1,4 +1,4 @@
--- Tables whose codes nobody has looked at yet.
+-- Tables that nobody has verified yet.
 use Rattle.std.specs.Prelude.{◌≡◌, ℕ, ◌<◌, ◌≤◌, length, slice_index}
 use Rattle.morris_board.specs.Boards.{Shape}
 use Rattle.morris_index.specs.Pairs.{IsPair}

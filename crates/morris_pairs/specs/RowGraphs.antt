@@ -7,8 +7,8 @@ use Rattle.morris_pairs.specs.declared.set_moves.SetTable.{SetTable}
 use Rattle.morris_pairs.specs.Orders.{Classes, Rows, index_in, own_in}
 use Rattle.morris_pairs.specs.SetMoves.{AreSetsTabled}
 
--- The graph of a pair of two different numbers, on n points, has what is kept of the classes of
--- this pair, the classes of the sets of the greater number, and a table of sets.
+-- The graph of a pair of two different numbers, on n points, has the classes of this pair, the
+-- classes of the sets of the greater number, and a table of sets.
 pub record IsRowGraph (board : Shape) (n : ℕ) (c classes_of : Counts) (sets_of : ℕ) (table : SetTable) : Type 0 where
   pub lawful : IsPair n c
   pub two : c.lesser < c.greater

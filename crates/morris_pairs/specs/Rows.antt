@@ -1,4 +1,4 @@
--- What the moves of the stones of one player are, whatever the opponent has.
+-- The moves of one player's stones, whatever the opponent has.
 use Rattle.std.specs.Prelude.{◌≡◌, ℕ, ◌<◌, Bool, not, ◌&&◌, nat_lt, filter, length, slice_index, if◌then◌else◌}
 use Rattle.std.specs.List.{list_any}
 use Rattle.morris_board.specs.Sets.{has, members, count_of}
@@ -29,7 +29,7 @@ is_closing_end board own u v = not (has own v) && (goes board (count_of own) u v
 unfoldable pub is_quiet_end : Shape → ℕ → ℕ → ℕ → Bool
 is_quiet_end board own u v = not (has own v) && (goes board (count_of own) u v && not (closes board own u v))
 
--- what is kept of the own stones
+-- what a row says of its own stones is right
 pub record IsRow (board : Shape) (n : ℕ) (row : Row) : Type 0 where
   pub len : length row.arrivals ≡ 24
   pub each : (v : ℕ) → v < n → slice_index row.arrivals v ≡ arrivals board row.own v

@@ -47,9 +47,9 @@ fn entry_after<B: Geometry>(
     successors.entry(from, to)
 }
 
-/// What the best result is worth of some whose best is worth `known` and those of the quiet moves
-/// of the stone on `from`, as the table states them. At the vacant points of `closing` some move
-/// closes a mill, and at no others.
+/// The best of the score `known` and the scores of the quiet moves of the stone on `from`, by the
+/// codes that the table states. At the vacant points of `closing` some move closes a mill, and at
+/// no others.
 fn best_from<B: Geometry>(
     raw: &Raw<B>,
     successors: &Successors<'_, B>,
@@ -77,8 +77,8 @@ fn best_from<B: Geometry>(
     best
 }
 
-/// What the best result of a position is worth, from the summary of its captures and the stated
-/// codes of the others.
+/// The best score of a position's results, from the summary of its captures and the codes that the
+/// table states for its quiet moves.
 fn best_after<B: Geometry>(
     raw: &Raw<B>,
     successors: &Successors<'_, B>,
@@ -102,7 +102,7 @@ fn best_after<B: Geometry>(
     best
 }
 
-/// What the captures of a position are worth that wins at once by one of them. Then the other
+/// The best score of a position that wins at once by a capture, and `None` for others. The other
 /// results are left out, since none can do better.
 fn best_at_once<B: Geometry>(raw: &Raw<B>, position: &Position<B>, captures: Exits) -> Option<u32>
     requires { captures ≡ exits_of (capture_codes B.shape position.now) }
@@ -114,8 +114,8 @@ fn best_at_once<B: Geometry>(raw: &Raw<B>, position: &Position<B>, captures: Exi
     }
 }
 
-/// Whether `code` is the one that the rules give a position from the codes of its results, where
-/// what the entries after the position need is kept.
+/// Whether `code` is the one that the rules give a position from the codes of its results. The
+/// entries of these are found by `successors`.
 pub(crate) fn is_code_after<B: Geometry>(
     raw: &Raw<B>,
     code: u16,
@@ -138,7 +138,7 @@ pub(crate) fn is_code_after<B: Geometry>(
     u32::from(code) == code_of_score(best)
 }
 
-/// Whether the entry `index` of the table agrees, which `position` has for its own.
+/// Whether the entry `index` of the table, which is `position`'s own, agrees.
 pub(crate) fn agrees<B: Geometry>(
     raw: &Raw<B>,
     index: u64,
@@ -166,7 +166,7 @@ pub(crate) fn agrees<B: Geometry>(
     u32::from(raw.code(index)) == code_of_score(best)
 }
 
-/// The first entry that doesn't agree of those from `first` up to, not including, `end`.
+/// The first entry of those from `first` up to, not including, `end` that doesn't agree.
 pub(crate) fn first_in<B: Geometry>(
     graph: &PairGraph<B>,
     raw: &Raw<B>,

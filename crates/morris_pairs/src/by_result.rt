@@ -1,10 +1,11 @@
-//! The entries of classes in the order of where their results stand.
+//! Verifies entries by classes in the order in which their results stand in the table.
 //!
-//! The quiet moves of a position lead to positions in which the opponent's stones are those of the
-//! player to move, and the entries of these stand together. So the positions that face one set of
-//! the opponent's are looked at together: what is read of the table for their results is then near
-//! what was read before, and what their captures lead to is kept. Their own entries are those of
-//! images, and lie far apart: these are read in a pass of their own, in which none has to wait for
+//! A quiet move leads to a position in which the player to move has what was the opponent's set,
+//! and entries with the same own set stand together. So positions in which the opponent has one set
+//! are verified together, as a group: each entry whose own set it is gives the members that are
+//! images of its position with the other player to move. What is read of the table for the members'
+//! results is then near what was read last, and what their captures lead to is cached. Their own
+//! entries lie far apart: they are read in a pass of their own, in which none has to wait for
 //! another.
 ghost use Rattle.std.specs.Prelude.{◌≡◌, ℕ, ◌<◌, ◌≤◌, true, IfOk, OnOk};
 ghost use Rattle.std.specs.List.{All};
@@ -26,7 +27,7 @@ use morris_index::class_pair::ClassPair;
 use std::alloc::{AllocError, Global};
 use std::marker::Model;
 
-/// Whether the entry of a position is known to agree, for which the table states `code`.
+/// Whether the entry of a position, for which the table states `code`, is known to agree.
 fn agree<B: Geometry>(
     graph: &PairGraph<B>,
     raw: &Raw<B>,
@@ -58,8 +59,8 @@ fn agree<B: Geometry>(
     )
 }
 
-/// Whether the entries of all of some positions are known to agree, for which the table states
-/// `codes`.
+/// Whether the entries of all of some positions, for which the table states `codes`, are known to
+/// agree.
 fn all_agree<B: Geometry>(
     graph: &PairGraph<B>,
     raw: &Raw<B>,
@@ -106,11 +107,11 @@ fn list_codes<B: Geometry>(
 /// What a worker goes through the entries with.
 #[derive(Drop)]
 pub(crate) struct Lists<'a, B: Geometry> {
-    /// The positions that face those of some entries.
+    /// The members that some entries give to their groups.
     group: Vec<GroupMember<'a, B>>,
     /// The codes that the table states for them.
     codes: Vec<u16>,
-    /// What is kept of the captures of these positions.
+    /// The captures of the members.
     cache: CaptureCache,
 }
 
@@ -127,7 +128,7 @@ impl<'a, B: Geometry> Model for Lists<'a, B> {
 }
 
 impl<'a, B: Geometry> Lists<'a, B> {
-    /// Empty lists, and nothing kept.
+    /// Empty lists and an empty cache.
     pub(crate) fn new(alloc: Global) -> Lists<'a, B> {
         Lists {
             group: Vec::new(alloc),
@@ -136,8 +137,8 @@ impl<'a, B: Geometry> Lists<'a, B> {
         }
     }
 
-    /// Whether the entries of all positions that face those of the entries from `first` up to, not
-    /// including, `end` are known to agree.
+    /// Whether the entries of all members that the entries from `first` up to, not including, `end`
+    /// give to their groups are known to agree.
     ///
     /// # Errors
     /// [`AllocError`] where memory is refused.

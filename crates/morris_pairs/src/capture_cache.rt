@@ -1,11 +1,11 @@
-//! Summaries of captures that are kept while positions are read, each by the stones of one player
-//! before the captures and by those of the other one after them.
+//! Summaries of captures that are cached while positions are read, each by the stones of one player
+//! before the captures and those of the other player after them.
 //!
-//! In a row in which the player to move has the same stones, what the captures lead to that leave
-//! the opponent certain stones depends on these sets alone, so long as the stone that is taken
-//! stands where no move closes a mill. Elsewhere it is in the way of such a move, which another
-//! position with the same stones left may have. Where the opponent has the same stones, several
-//! moves of several positions lead to the same stones of the player who moved.
+//! Where positions share the stones of the player to move, what the captures lead to that leave the
+//! opponent certain stones depends on these two sets alone, as long as no move closes a mill on the
+//! point of the stone that is taken. A stone on such a point is in the way of the move, which
+//! another position that leaves the same stones may have. Where positions share the stones of the
+//! opponent, several of their moves give the player who moved the same stones.
 ghost use Rattle.std.specs.Prelude.{◌≡◌, ℕ, ◌<◌, List, IfSome};
 ghost use Rattle.morris_wave.specs.Exits.{exits_of};
 ghost use Rattle.morris_pairs.specs.CaptureCaches.{IsCaptureCache};
@@ -14,10 +14,10 @@ use morris_board::points::Points;
 use morris_wave::Exits;
 use std::alloc::Global;
 
-/// At most so many summaries are kept.
+/// The most summaries that are cached.
 const SLOTS: usize = 4096;
 
-/// A summary that is kept, or none.
+/// A cached summary, or none.
 #[derive(Clone, Copy)]
 pub(crate) struct Slot {
     /// The stones of one player before the captures.
@@ -28,18 +28,18 @@ pub(crate) struct Slot {
     pub(crate) results: Exits,
 }
 
-/// A slot in which nothing is kept.
+/// A slot without a summary.
 const EMPTY_SLOT: Slot = Slot {
     before: Points::EMPTY,
     after: Points::EMPTY,
     results: Exits::NONE,
 };
 
-/// The summaries that are kept, each in the slot of the stones after the captures, until another
-/// takes its place.
+/// The cached summaries, each in the slot of the stones after the captures, until another takes its
+/// place.
 #[derive(Drop)]
 pub(crate) struct CaptureCache {
-    /// The slots; none where memory for them was refused, and then nothing is kept.
+    /// The slots; none where memory for them was refused, and then nothing is cached.
     pub(crate) slots: Vec<Slot>,
 }
 
@@ -51,7 +51,7 @@ fn slot_of(after: Points) -> usize
 }
 
 impl CaptureCache {
-    /// Nothing is kept yet.
+    /// An empty cache.
     pub(crate) fn new(alloc: Global) -> CaptureCache
         ensures { (codes : ℕ → ℕ → List ℕ) → IsCaptureCache codes result }
     {
@@ -63,7 +63,7 @@ impl CaptureCache {
         }
     }
 
-    /// The summary of the captures with these stones before and after them, where it is kept.
+    /// The summary of the captures with these stones before and after them, where it is cached.
     pub(crate) fn get(&self, before: Points, after: Points) -> Option<Exits>
         requires { 0 < after }
         ensures { (codes : ℕ → ℕ → List ℕ) → IsCaptureCache codes self.now → IfSome result (λ results. results ≡ exits_of (codes before after)) }
@@ -74,7 +74,7 @@ impl CaptureCache {
         }
     }
 
-    /// Keeps the summary of these captures, in place of what its slot has.
+    /// Caches the summary of these captures, in place of what its slot has.
     pub(crate) fn put(&mut self, before: Points, after: Points, results: Exits)
         ensures { (codes : ℕ → ℕ → List ℕ) → IsCaptureCache codes self.old → results ≡ exits_of (codes before after) → IsCaptureCache codes self.new }
     {

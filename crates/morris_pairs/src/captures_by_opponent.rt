@@ -1,5 +1,6 @@
-//! The captures of a position, summed up by the stones that are faced after them. In a row in which
-//! the opponent has the same stones, several moves of several positions lead to the same ones.
+//! The captures of a position, summed up by the opponent's set in their results: the stones of the
+//! player who moved. Where positions share the stones of the other player, several of their moves
+//! give the same set.
 ghost use Rattle.std.specs.Prelude.{◌≡◌, ℕ, ◌++◌, true, List};
 ghost use Rattle.morris_board.specs.Positions.{IsPosition};
 ghost use Rattle.morris_board.specs.Sets.{has, members};
@@ -22,8 +23,8 @@ use morris_board::position::Position;
 use morris_moves::rules::takable_stones;
 use morris_wave::Exits;
 
-/// The summary of the captures of a position by a move after which the opponent, who is to move
-/// then, faces `opponent_set`: one for each stone that may be taken. It is kept from now on.
+/// The summary of the captures of a position by a move that makes `opponent_set` the opponent's set
+/// of the results: one capture for each stone that may be taken. It is cached from now on.
 fn exits_to_opponent<B: Geometry>(
     table: &Exact<B>,
     position: &Position<B>,

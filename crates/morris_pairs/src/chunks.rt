@@ -1,4 +1,5 @@
-//! Entries of a table shared out among workers, who find out up to which all are as they should be.
+//! Entries of a table, dealt out to workers in chunks to find out up to which all are as they
+//! should be.
 ghost use Rattle.std.specs.Prelude.{◌≡◌, ◌⊎◌, ℕ, ◌+◌, ◌*◌, ◌%◌, ◌<◌, ◌≤◌, false, true, length, slice_index_or, vec_len, IfOk, OnOk};
 ghost use Rattle.std.specs.List.{All, Contains};
 ghost use Rattle.std.specs.Option.{option_copied};
@@ -16,7 +17,7 @@ use std::sync::atomic::{AtomicU64, Ordering};
 use std::thread;
 use std::thread::Threads;
 
-/// How many entries a stretch has. The workers take the stretches as they come, since an entry of
+/// How many entries a chunk has. The workers take the chunks one after the other, since an entry of
 /// one half of a pair may take several times as long as one of the other.
 pub(crate) const CHUNK_ENTRIES: u64 = 4096;
 
@@ -50,8 +51,8 @@ impl<B: Geometry, R> Drop for Claim<'_, B, R> {
 
 impl<'a, B: Geometry, R> Claim<'a, B, R> {
     /// Whether the entries from `first` up to, not including, `end` are known to be as asked. With
-    /// `grouping`, the classes of the entries, it is asked whether the entries of all positions agree
-    /// that face theirs, and else whether they agree themselves.
+    /// `by_opponent`, the classes of the entries, it is asked whether the entries of all members
+    /// that they give to their groups agree, and without it whether they agree themselves.
     ///
     /// # Errors
     /// [`AllocError`] where memory is refused.
@@ -72,8 +73,8 @@ impl<'a, B: Geometry, R> Claim<'a, B, R> {
         }
     }
 
-    /// Takes stretches below `end`, each the next one that no worker has taken, and adds those to
-    /// `known` whose entries are as asked. It ends at the first one of which that isn't known.
+    /// Takes chunks below `end`, each the next one that no worker has taken, and adds those to
+    /// `known` whose entries are as asked. It ends at the first chunk of which that isn't known.
     ///
     /// # Errors
     /// [`AllocError`] where memory is refused.
@@ -106,7 +107,7 @@ impl<'a, B: Geometry, R> Claim<'a, B, R> {
         Ok(())
     }
 
-    /// The stretches that a worker takes whose entries are as asked (see [`Claim::add_known`]).
+    /// The chunks that a worker takes whose entries are as asked (see [`Claim::add_known`]).
     ///
     /// # Errors
     /// [`AllocError`] where memory is refused.
@@ -127,7 +128,7 @@ impl<'a, B: Geometry, R> Claim<'a, B, R> {
     }
 }
 
-/// Sets the marks of these stretches; the first mark is that of `first`.
+/// Sets the marks of these chunks; the first mark is that of the chunk `first`.
 fn mark(known: &[u64], first: u64, marks: &mut [bool])
     ensures known { (i : ℕ) → slice_index_or marks.new i false ≡ true → (slice_index_or marks.old i false ≡ true) ⊎ Contains known.now (first + i) }
     ensures len { length marks.new ≡ length marks.old }
@@ -154,10 +155,11 @@ fn first_unset(marks: &[bool]) -> usize
 }
 
 impl<'a, B: Board, R: Threads + Sync> Claim<'a, B, R> {
-    /// What each worker knows of the stretches from `first` up to, not including, `end`.
+    /// What each worker knows of the chunks from `first` up to, not including, `end`.
     ///
     /// # Errors
-    /// [`AllocError`] where memory is refused. Where a thread is, the caller's own does its work.
+    /// [`AllocError`] where memory is refused. Where a thread is refused, the caller's own does its
+    /// work.
     fn known_by_all(
         &self,
         grouping: Option<&'a ClassPair<B>>,
@@ -183,8 +185,8 @@ impl<'a, B: Board, R: Threads + Sync> Claim<'a, B, R> {
         )
     }
 
-    /// The first of the stretches from `first` up to, not including, `end` whose entries aren't
-    /// known to be as asked, or `end`.
+    /// The first chunk of those from `first` up to, not including, `end` whose entries aren't known
+    /// to be as asked, or `end`.
     ///
     /// # Errors
     /// [`AllocError`] where memory is refused.
@@ -211,9 +213,9 @@ impl<'a, B: Board, R: Threads + Sync> Claim<'a, B, R> {
         Ok(first + first_unset(&marks) as u64)
     }
 
-    /// Up to which of the entries from `first`, a multiple of [`CHUNK_ENTRIES`], up to, not including,
-    /// `end` all are known to be as asked: `end` where all are. Where memory is refused, nothing is
-    /// known.
+    /// Up to which of the entries from `first`, a multiple of [`CHUNK_ENTRIES`], up to, not
+    /// including, `end` all are known to be as asked: `end` where all are. Where memory is refused,
+    /// nothing is known.
     pub(crate) fn known_until(
         &self,
         grouping: Option<&'a ClassPair<B>>,

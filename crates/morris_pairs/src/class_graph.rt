@@ -29,15 +29,15 @@ use std::alloc::{AllocError, Global};
 use std::marker::Model;
 
 /// The graph of a pair by classes, over the tables of the pairs that it needs. Its nodes are the
-/// entries of classes, each for the position that has it for its own. A quiet move leads to the
-/// entry of its result, and captures lead out of the graph.
+/// entries of classes, each for the position whose own entry it is. A quiet move leads to the entry
+/// of its result, and captures lead out of the graph.
 #[derive(Drop)]
 pub struct ClassGraph<'a, B: Geometry> {
     /// The graph of all positions of the pair, which knows what captures lead to.
     graph: PairGraph<'a, B>,
     /// The entries, which are those of classes.
     numbering: Numbering<B>,
-    /// What gives memory for the captures that are kept while entries are read.
+    /// What gives memory for the cache of captures while entries are read.
     alloc: Global,
 }
 
@@ -59,8 +59,8 @@ impl<'a, B: Geometry> ClassGraph<'a, B> {
     /// # Errors
     /// `Needs` with the first of the pairs that the pair needs whose table isn't on the shelf,
     /// before `Memory`, where memory for the classes is refused. Other calls take memory for the
-    /// lists that are asked for; while nodes are read, also some 80 KiB for the captures that are
-    /// kept, and where these are refused, nodes are read without.
+    /// lists that are asked for; while nodes are read, also some 80 KiB for a cache of captures,
+    /// and where these are refused, nodes are read without it.
     pub fn new(
         alloc: Global,
         shelf: &'a Shelf<B>,

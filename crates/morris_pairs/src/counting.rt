@@ -34,7 +34,7 @@ pub trait Coded {
     // How many there are.
     ghost many: { Self → ℕ };
 
-    /// The code of an entry. It is at hand soonest where that of the entry before was read last.
+    /// The code of an entry. It is at hand soonest where that of the preceding entry was read last.
     ///
     /// # Errors
     /// [`Failed`] where it can't be read.
@@ -166,7 +166,7 @@ impl<B: Geometry, C: Coded> Entries<B, C> {
         }
     }
 
-    /// The position that has an entry for its own.
+    /// The position whose own entry this is.
     pub fn position(&self, entry: u64) -> Position<B>
         requires { entry < entry_count B.shape B.POINTS self.now.layout self.now.pair }
         ensures entry { entry_index B.shape B.POINTS self.now.layout self.now.pair result ≡ entry }
@@ -267,8 +267,8 @@ fn no_tallies(alloc: Global, count: usize) -> Result<Vec<u64>, AllocError>
     Ok(tallies)
 }
 
-/// Adds `orbit_size` for the code of each entry from `first` on and below `end`, each of which so many
-/// positions have.
+/// Adds `orbit_size` for the code of each entry from `first` on and below `end`. Each of these
+/// entries has an orbit of this size.
 ///
 /// # Errors
 /// [`Failed`] where a code can't be read.
@@ -299,8 +299,8 @@ fn count_chunk<C: Coded>(
     Ok(())
 }
 
-/// Adds how many positions there are for the code of each entry from `first` on and below `end`,
-/// row by row: the entries of a row have as many positions each.
+/// Adds the orbit size of each entry from `first` on and below `end` for its code, row by row: the
+/// orbits of the entries of a row have the same size.
 ///
 /// # Errors
 /// [`Failed`] where a code can't be read.

@@ -24,9 +24,9 @@ use std::marker::Model;
 
 /// The table of a pair: for each of its entries the code of the value that best play of both
 /// players leads to from the entry's position. In layout `Full` each position has an entry; in
-/// layout `Classes` a position has the value of the one to which it is led, since that is an image
-/// of it. A code is 0 for a draw and otherwise one more than the depth in plies. Depths of losses
-/// are even and those of wins odd, so an odd code is a loss and an even one above 0 a win.
+/// layout `Classes` a position has the value of its canonical form, which is an image of it. A code
+/// is 0 for a draw and otherwise one more than the depth in plies. Depths of losses are even and
+/// those of wins odd, so an odd code is a loss and an even one above 0 a win.
 #[derive(Drop)]
 pub struct Exact<B: Geometry> {
     numbering: Numbering<B>,
@@ -53,7 +53,7 @@ impl<B: Geometry> Exact<B> {
         Exact { numbering, codes }
     }
 
-    /// The pair whose positions the table tells of.
+    /// The pair of the table's positions.
     pub fn pair(&self) -> Pair<B>
         ensures value { result ≡ self.now.pair }
         ensures lawful { IsTable B.shape self.now }
@@ -133,7 +133,7 @@ impl<B: Geometry> Exact<B> {
         self.pair() == raw.pair() && self.layout() == raw.layout() && self.codes() == raw.codes()
     }
 
-    /// The same pair, layout and codes, to be judged again by whoever gets them.
+    /// The same pair, layout and codes, to be verified again by whoever gets them.
     pub fn into_raw(self) -> Raw<B>
         ensures { result ≡ self }
     {

@@ -180,9 +180,9 @@ fn with_captures<B: Geometry>(
     exits
 }
 
-/// The summary of the captures of the stone on `taken`: that which is kept of the stones that are
-/// left, or one that is kept from now on. Nothing is kept of a stone that stands where a move
-/// closes a mill, since it is in the way of that move.
+/// The summary of the captures of the stone on `taken`: the cached one of the stones that are left,
+/// or else one that is cached from now on. Nothing is cached where a move closes a mill on the
+/// point of the stone, since it is in the way of that move.
 fn captures_of<B: Geometry>(
     table: &Exact<B>,
     row: &Row,
@@ -263,7 +263,7 @@ impl<'a, B: Geometry> PairGraph<'a, B> {
         self.table_by(Numbering::Full(self.pair), codes)
     }
 
-    /// The table of the pair with its entries so numbered, of their codes in order.
+    /// The table of the pair with this numbering of its entries, of their codes in order.
     pub(crate) fn table_by(&self, numbering: Numbering<B>, codes: Vec<u16>) -> Exact<B>
         requires pair { pair_of numbering ≡ self.now }
         requires len { vec_len codes ≡ (net_at B.shape (level_of (layout_of numbering) self.now)).size }
@@ -303,8 +303,8 @@ impl<'a, B: Geometry> PairGraph<'a, B> {
         }
     }
 
-    /// The summary of what the captures of a position of the pair lead to, from what is kept of its
-    /// own stones.
+    /// The summary of what the captures of a position of the pair lead to, from the row of its own
+    /// stones.
     pub(crate) fn exits_by_row(&self, row: &Row, position: &Position<B>) -> Exits
         requires counts { is_of self.now position.now ≡ true }
         requires lawful { IsPosition B.shape position.now }
@@ -324,7 +324,7 @@ impl<'a, B: Geometry> PairGraph<'a, B> {
         exits
     }
 
-    /// The same, with the summaries of captures that are kept from position to position.
+    /// The same, with summaries that are cached from position to position.
     pub(crate) fn exits_with_cache(
         &self,
         row: &Row,

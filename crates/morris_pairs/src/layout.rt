@@ -5,8 +5,8 @@
 pub enum Layout {
     /// An entry for each position, at its index.
     Full,
-    /// An entry for each position in which the player to move stands on the representative of a
-    /// class of sets of points. A position is led to one of these by a symmetry of the board, and
-    /// has its value.
+    /// An entry for each position in which the set of the player to move is in canonical form: of
+    /// its images under the symmetries of the board it has the least mask. Such a symmetry brings
+    /// any position to one of these, its own canonical form, which has its value.
     Classes,
 }

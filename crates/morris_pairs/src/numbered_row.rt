@@ -1,5 +1,5 @@
-//! What the moves of the stones of one player are, by the numbers of the points that they leave
-//! free: these are numbered in ascending order, from 0.
+//! The moves of one player's stones, by the numbers of the points that they leave free. These
+//! points are numbered in ascending order, from 0.
 ghost use Rattle.std.specs.Prelude.{◌≡◌, ℕ, ◌+◌, ◌%◌, ◌<◌, ◌&&◌, ◌||◌, nat_eq, false, length, filter, if◌then◌else◌};
 ghost use Rattle.std.specs.List.{list_any, sum_by};
 ghost use Rattle.morris_board.specs.Sets.{has, members};
@@ -27,11 +27,11 @@ pub(crate) struct SmallCounts {
     pub(crate) eights: Points,
 }
 
-/// What is kept of the stones of one player, so that positions with these stones are read from the
-/// numbers of the opponent's alone.
+/// The moves of one player's stones, so that positions with these stones are read from the numbers
+/// of the opponent's alone.
 #[derive(Clone, Copy)]
 pub(crate) struct NumberedRow {
-    /// What is kept of them by points.
+    /// The same by points.
     pub(crate) row: Row,
     /// For the number of each free point, how many stones may come there by a quiet move, where it
     /// is vacant.
@@ -83,7 +83,7 @@ impl SmallCounts {
 }
 
 impl NumberedRow {
-    /// What is to be kept of stones of which this is kept by points.
+    /// The moves of the stones of `row`, by numbers as well.
     pub(crate) fn of<B: Geometry>(row: &Row) -> NumberedRow
         requires { IsRow B.shape B.POINTS row.now }
         ensures row { result.row ≡ row.now }

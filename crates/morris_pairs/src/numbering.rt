@@ -28,7 +28,7 @@ use std::alloc::{AllocError, Global};
 pub(crate) enum Numbering<B: Geometry> {
     /// Each position has an entry.
     Full(Pair<B>),
-    /// Each position is led to one that has an entry.
+    /// Each position has the entry of its canonical form.
     Classes(ClassPair<B>),
 }
 
@@ -99,7 +99,7 @@ impl<B: Geometry> Numbering<B> {
         }
     }
 
-    /// The entry that tells the value of a position of the pair, below [`Numbering::count`].
+    /// The entry that states the value of a position of the pair, below [`Numbering::count`].
     pub(crate) fn entry(&self, position: &Position<B>) -> u64
         requires { is_of (pair_of self.now) position.now ≡ true }
         ensures value { result ≡ entry_index B.shape B.POINTS (layout_of self.now) (pair_of self.now) position.now }
@@ -139,7 +139,7 @@ impl<B: Geometry> Numbering<B> {
         }
     }
 
-    /// The position that has the entry `index`, below [`Numbering::count`], for its own.
+    /// The position whose own entry is `index`, which is below [`Numbering::count`].
     pub(crate) fn position(&self, index: u64) -> Position<B>
         requires { index < entry_count B.shape B.POINTS (layout_of self.now) (pair_of self.now) }
         ensures entry { entry_index B.shape B.POINTS (layout_of self.now) (pair_of self.now) result ≡ index }
@@ -153,7 +153,7 @@ impl<B: Geometry> Numbering<B> {
         }
     }
 
-    /// [`Numbering::position`], where the position of the entry before is at hand.
+    /// [`Numbering::position`], where the position of the preceding entry is at hand.
     pub(crate) fn next_position(&self, before: &Position<B>, index: u64) -> Position<B>
         requires counts { is_of (pair_of self.now) before.now ≡ true }
         requires own { has_own_entry B.shape (layout_of self.now) before.now ≡ true }
@@ -171,8 +171,7 @@ impl<B: Geometry> Numbering<B> {
     }
 }
 
-/// What is kept of a position, so that the entry of each position after a quiet move from it is
-/// found in constant time.
+/// A position whose successors, the entries after its quiet moves, are found in constant time each.
 #[derive(Drop)]
 pub(crate) enum Successors<'a, B: Geometry> {
     /// Among the entries of all positions.
@@ -182,7 +181,7 @@ pub(crate) enum Successors<'a, B: Geometry> {
 }
 
 impl<'a, B: Geometry> Successors<'a, B> {
-    /// What is to be kept of a position of the pair.
+    /// Those of a position of the pair.
     pub(crate) fn of(numbering: &'a Numbering<B>, position: &Position<B>) -> Successors<'a, B>
         requires { is_of (pair_of numbering.now) position.now ≡ true }
         ensures layout { layout_after result ≡ layout_of numbering.now }
@@ -211,8 +210,8 @@ impl<'a, B: Geometry> Successors<'a, B> {
     }
 }
 
-/// What is kept of a position, so that the entries before a quiet move to it are found in constant
-/// time. It is borrowed: it may hold some 200 bytes, which each move of the enum would copy.
+/// A position whose predecessors, the entries before a quiet move to it, are found in constant time
+/// each. It is borrowed: it may hold some 200 bytes, which each move of the enum would copy.
 #[derive(Drop)]
 pub(crate) enum Predecessors<'a, B: Geometry> {
     /// Among the entries of all positions.
@@ -221,8 +220,8 @@ pub(crate) enum Predecessors<'a, B: Geometry> {
     Classes(&'a PredecessorEntries<'a, B>),
 }
 
-/// Adds the entries from which the quiet moves to `to` from each of `sources` led to the entry of
-/// the position of `entries`: see [`Predecessors::add`].
+/// Adds the predecessors of the entry of the position of `entries` by the quiet moves to `to` from
+/// each of `sources`: see [`Predecessors::add`].
 fn add_predecessor<B: Geometry>(
     entries: &PredecessorEntries<'_, B>,
     to: u8,
@@ -241,9 +240,9 @@ fn add_predecessor<B: Geometry>(
 }
 
 impl<'a, B: Geometry> Predecessors<'a, B> {
-    /// Adds the entries from which the quiet moves to `to` from each of `sources` led to the
-    /// position's entry, in order of the sources: a stone of the opponent stands on `to`, and the
-    /// sources are vacant.
+    /// Adds the predecessors of the position's entry by the quiet moves to `to` from each of
+    /// `sources`, in order of the sources: a stone of the opponent stands on `to`, and the sources
+    /// are vacant.
     ///
     /// # Errors
     /// [`AllocError`] where memory runs out. Then some of the entries may have been added.

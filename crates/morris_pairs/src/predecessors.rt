@@ -1,4 +1,4 @@
-//! The entries from which a quiet move leads to an entry.
+//! The predecessors of an entry: those from which a quiet move leads to it.
 ghost use Rattle.std.specs.Prelude.{◌≡◌, ℕ, ◌<◌, ◌≤◌, [], true, OnOk, OnErr, vec_len};
 ghost use Rattle.std.specs.List.{All, sum_by};
 ghost use Rattle.morris_index.specs.Pairs.{IsPair, is_of};
@@ -16,7 +16,7 @@ use morris_index::predecessors::PredecessorIndices;
 use morris_moves::backward::sources;
 use std::alloc::AllocError;
 
-/// Adds the entries from which a quiet move leads to the entry of the position of `before`: see
+/// Adds the predecessors of the entry of `position`, the position of `before`: see
 /// [`list_predecessors`]. After a refusal some of them may have been added.
 fn add_all_predecessors<B: Geometry>(
     before: &Predecessors<'_, B>,
@@ -35,7 +35,7 @@ fn add_all_predecessors<B: Geometry>(
     Ok(())
 }
 
-/// Adds what [`list_predecessors`] lists. After a refusal some of the entries may have been
+/// Adds what [`list_predecessors`] lists. After a refusal some of the predecessors may have been
 /// added.
 fn add_predecessors<B: Geometry>(
     numbering: &Numbering<B>,
@@ -60,13 +60,13 @@ fn add_predecessors<B: Geometry>(
     }
 }
 
-/// Lists the entries from which a quiet move leads to the entry that `position` has for its own,
-/// each as often as it has such a move.
+/// Lists the predecessors of the own entry of `position`: the entries from which a quiet move leads
+/// to it, each as often as it has such a move.
 ///
-/// Where entries are those of classes, these moves lead to any position that falls on the entry.
-/// None but `position` is looked at: the symmetry that leads such a position to `position` carries
-/// the move before it along, and so each of them is a quiet move to `position`, carried by that
-/// symmetry's inverse.
+/// Where entries are those of classes, these moves lead to any position in the orbit of the entry.
+/// None but `position` is looked at: the symmetry that brings such a position to `position` takes
+/// the move along with it, and so each of these moves is a quiet move to `position`, brought there
+/// by that symmetry's inverse.
 ///
 /// The vector is emptied first. It is empty after a refusal.
 pub(crate) fn list_predecessors<B: Geometry>(
@@ -91,8 +91,8 @@ pub(crate) fn list_predecessors<B: Geometry>(
     Ok(())
 }
 
-/// Lists the entries from which a quiet move leads to one of these entries, each as often as it has
-/// such a move.
+/// Lists the predecessors of these entries: the entries from which a quiet move leads to one of
+/// them, each as often as it has such a move.
 ///
 /// The vector is emptied first. It is empty after a refusal.
 pub(crate) fn list_predecessors_of_all<B: Geometry>(

@@ -74,7 +74,7 @@ impl<B: Geometry> Raw<B> {
         Raw { numbering, codes }
     }
 
-    /// The pair whose positions the table tells of.
+    /// The pair of the table's positions.
     pub fn pair(&self) -> Pair<B>
         ensures value { result ≡ self.now.pair }
         ensures lawful { IsPair B.POINTS self.now.pair }

@@ -25,7 +25,7 @@ pub const DIGEST: usize = 32;
 /// Reads a table from its file, after which the source has to end. The codes may be wrong.
 ///
 /// Version 1 is a table in layout `Full`, version 2 one in layout `Classes`. Bytes are read in
-/// pieces of several KiB. Memory is taken for the classes, in version 2, and for the codes, once
+/// chunks of several KiB. Memory is taken for the classes, in version 2, and for the codes, once
 /// the header is known to be right; only the number of entries by classes is compared after the
 /// classes are made. Fewer than `u64::MAX` calls of the source may have failed before.
 ///
@@ -165,7 +165,7 @@ fn push_codes(codes: &mut Vec<u16>, bytes: &[u8])
 /// Reads until the buffer is full.
 ///
 /// # Errors
-/// `Short` where the source ends before that, and `Read` where a read failed.
+/// `Short` where the source ends earlier, and `Read` where a read failed.
 fn read_whole<S: Source>(source: &mut S, buffer: &mut [u8]) -> Result<(), ReadFault>
     requires { S.failures source.old < 2 ^ 64 - 1 }
     ensures bytes { OnOk result (Consumes (S.remaining source.old) (S.remaining source.new) buffer.new) }

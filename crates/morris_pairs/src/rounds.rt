@@ -1,4 +1,4 @@
-//! The entries of a table gone through round by round, so that it is told how far that is.
+//! The entries of a table gone through in rounds, after each of which progress is reported.
 ghost use Rattle.std.specs.Prelude.{◌≡◌, ℕ, ◌<◌, ◌≤◌, true, MatchOption};
 ghost use Rattle.std.specs.Int.{div_ceil};
 ghost use Rattle.morris_board.specs.Symmetries.{HasSymmetries};
@@ -17,9 +17,9 @@ use morris_wave::Watch;
 use std::alloc::Global;
 use std::thread::Threads;
 
-/// How many entries a round has, after which it is told how many are done: a multiple of
-/// [`CHUNK_ENTRIES`](crate::sharing::STRETCH), and so many that it doesn't matter that the workers wait
-/// for one another at its end.
+/// How many entries a round has, after which it is reported how many are done: a multiple of
+/// [`CHUNK_ENTRIES`](crate::chunks::CHUNK_ENTRIES), and so many that it doesn't matter that the
+/// workers wait for one another at its end.
 const ROUND: u64 = 4_194_304;
 
 /// In how many rounds the entries of a table are gone through.
@@ -53,8 +53,8 @@ impl<'a, B: Board, R: Threads + Sync> Claim<'a, B, R> {
         None
     }
 
-    /// Whether all entries are known to agree of a table by these classes, by those of all
-    /// positions that face one: they are all entries.
+    /// Whether all entries of a table by these classes are known to agree. They are verified as
+    /// those of the members that the entries give to their groups, which are all entries.
     fn group_agrees<W: Watch>(&self, classes: &'a ClassPair<B>, watch: &mut W) -> bool
         requires classes { classes.now ≡ self.now.raw.now.pair }
         requires layout { self.now.raw.now.layout ≡ Layout.Classes }
@@ -87,9 +87,9 @@ impl<'a, B: Board, R: Threads + Sync> Claim<'a, B, R> {
     }
 }
 
-/// The first entry that doesn't agree, by so many workers. The watch is told after each round how
-/// many entries are done, from the first one on where the entries have to be gone through a second
-/// time. Where memory is refused, the caller goes through all entries.
+/// The first entry that doesn't agree, by so many workers. It is reported after each round how many
+/// entries are done, and from the first one on again where the entries have to be gone through a
+/// second time. Where memory is refused, the caller goes through all entries.
 pub(crate) fn first_by<B: Board, R: Threads + Sync, W: Watch>(
     rt: &R,
     alloc: Global,

@@ -1,10 +1,10 @@
 //! The graph of a pair of two different numbers by rows.
 //!
-//! A row is all nodes in which the side with more stones has the same ones, on the representative
-//! of a class. They follow one another, in each half of the graph, so what depends on these stones
-//! alone is found once for all of them: where the nodes before them stand, and what captures lead
-//! to. By classes, only the nodes of the first half are together like this: in the second half it
-//! is the side with fewer stones that stands on a representative.
+//! A row is all nodes in which the side with more stones has one set in canonical form. They follow
+//! one another, in each half of the graph, so what depends on these stones alone is found once for
+//! all of them: where their predecessors stand, and what captures lead to. By classes, only the
+//! nodes of the first half are together like this: in the second half it is the set of the side
+//! with fewer stones that is in canonical form.
 ghost use Rattle.std.specs.Prelude.{◌≡◌, ℕ, ◌+◌, ◌<◌, ◌≤◌, true, false, min, length, slice_index, vec_len, ◌↔◌, None, IfErr, IfOk, OnOk, MatchResult};
 ghost use Rattle.morris_board.specs.Positions.{IsPosition};
 ghost use Rattle.morris_board.specs.Sets.{count_of};
@@ -51,9 +51,9 @@ use std::thread;
 use std::thread::Threads;
 
 /// The graph of a pair of two different numbers by rows, over the tables of the pairs that it
-/// needs. A node is a position in which the side with more stones stands on the representative of a
-/// class. Those in which this side is to move come first, as the entries of the first half by
-/// classes. The same positions with the other side to move are the second half, in the same order.
+/// needs. A node is a position in which the set of the side with more stones is in canonical form.
+/// Those in which this side is to move come first, as the entries of the first half by classes. The
+/// same positions with the other side to move are the second half, in the same order.
 #[derive(Drop)]
 pub struct RowGraph<'a, B: Geometry> {
     /// The graph of all positions of the pair, which knows what captures lead to.
@@ -64,8 +64,8 @@ pub struct RowGraph<'a, B: Geometry> {
     sets: Classes<B>,
     /// What the moves are of each set of the lesser number.
     moves: SetTable,
-    /// What gives memory for the captures that are kept while nodes are read, and for the moves
-    /// that led to a row.
+    /// What gives memory for the cache of captures while nodes are read, and for the un-moves of a
+    /// row.
     alloc: Global,
 }
 
@@ -80,7 +80,7 @@ impl<'a, B: Geometry> Model for RowGraph<'a, B> {
     ghost invariant = { λ graph. IsRowGraph B.shape B.POINTS graph.graph graph.classes graph.sets graph.moves };
 }
 
-/// So many nodes are found before their codes are read.
+/// How many nodes are found before their codes are read.
 const CHUNK: usize = 256;
 
 impl<'a, B: Geometry> RowGraph<'a, B> {
@@ -90,8 +90,8 @@ impl<'a, B: Geometry> RowGraph<'a, B> {
     /// # Errors
     /// `Needs` with the first of the pairs that the pair needs whose table isn't there, before
     /// `Memory`, where memory for the classes is refused. Other calls take memory for the lists
-    /// that are asked for; while nodes are read, also some 100 KiB for the captures that are kept,
-    /// and where these are refused, nodes are read without.
+    /// that are asked for; while nodes are read, also some 100 KiB for a cache of captures, and
+    /// where these are refused, nodes are read without it.
     pub fn over(
         alloc: Global,
         tables: &'a TableSet<B>,
@@ -169,7 +169,8 @@ impl<'a, B: Geometry> RowGraph<'a, B> {
     }
 
     /// Reads the nodes of the positions of a row of entries of the first half with their sides
-    /// turned, from the first of them on, as many as there is room for. It says how many these are.
+    /// swapped, from the first of them on, as many as there is room for. It returns how many these
+    /// are.
     fn read_swapped_row(
         &self,
         entries: &EntryRow<B>,
@@ -201,8 +202,8 @@ impl<'a, B: Geometry> RowGraph<'a, B> {
     }
 
     /// Reads the nodes of the second half from the one of the entry `first` on, which is of the
-    /// first half, as many as there is room for. Where memory is refused, nothing is kept from node
-    /// to node.
+    /// first half, as many as there is room for. Where memory is refused, nothing is cached from
+    /// node to node.
     fn read_swapped(&self, first: u64, counts: &mut [u16], exits: &mut [Exits])
         requires room { length exits.old ≡ length counts.old }
         requires inside { first + length counts.old ≤ class_half_size B.shape B.POINTS self.now.greater self.now.lesser }
@@ -227,7 +228,8 @@ impl<'a, B: Geometry> RowGraph<'a, B> {
     }
 
     /// The nodes of the positions of a row of entries by classes in which the opponent has more
-    /// stones, from the first of them on, as many as there is room for. It says how many these are.
+    /// stones, from the first of them on, as many as there is room for. It returns how many these
+    /// are.
     fn list_nodes(&self, entries: &EntryRow<B>, nodes: &mut [u64]) -> usize
         requires pair { entries.now.pair ≡ self.now }
         requires second_half { class_half_size B.shape B.POINTS self.now.greater self.now.lesser ≤ entries.now.first }
@@ -245,8 +247,8 @@ impl<'a, B: Geometry> RowGraph<'a, B> {
     }
 
     /// Writes the codes of a row of entries of the second half by classes, from the first of them
-    /// on, as many as there is room for, up to a [`CHUNK`]. It says how many these are. All nodes
-    /// are found first, so that their codes are read side by side.
+    /// on, as many as there is room for, up to a [`CHUNK`]. It returns how many these are. All
+    /// nodes are found first, so that their codes are read side by side.
     fn fill_row(&self, codes: &[u16], entries: &EntryRow<B>, part: &mut [u16]) -> usize
         requires pair { entries.now.pair ≡ self.now }
         requires second_half { class_half_size B.shape B.POINTS self.now.greater self.now.lesser ≤ entries.now.first }
@@ -308,8 +310,8 @@ impl<'a, B: Geometry> RowGraph<'a, B> {
 
 impl<'a, B: Board> RowGraph<'a, B> {
     /// The codes of the entries of the second half by classes in their order, from those of the
-    /// nodes. Each worker writes one stretch of them. Where a thread is refused, the caller's own
-    /// does its work.
+    /// nodes. Each worker writes a range of them. Where a thread is refused, the caller's own does
+    /// its work.
     ///
     /// # Errors
     /// [`AllocError`] where memory for them is refused.
@@ -346,7 +348,7 @@ impl<'a, B: Board> RowGraph<'a, B> {
     ///
     /// # Errors
     /// [`AllocError`] where memory for the codes in the order of the entries is refused. Where a
-    /// thread is, the caller's own does its work.
+    /// thread is refused, the caller's own does its work.
     pub fn into_table<R: Threads + Sync>(
         self,
         rt: &R,

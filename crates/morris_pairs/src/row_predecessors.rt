@@ -1,5 +1,5 @@
-//! The way back from many nodes of a graph by rows. The nodes of a row follow one another, and what
-//! is the same for all of them is made once.
+//! The predecessors of many nodes of a graph by rows. The nodes of a row follow one another, and
+//! what is the same for all of them is made once.
 ghost use Rattle.std.specs.Prelude.{◌≡◌, ◌≢◌, ℕ, ◌+◌, ◌*◌, ◌++◌, ◌<◌, ◌≤◌, [], true, None, length, map, take, slice_index, vec_len, IfOk, OnOk, OnErr, MatchOption};
 ghost use Rattle.std.specs.List.{All, sum_by};
 ghost use Rattle.morris_board.specs.Sets.{has, members, count_of};
@@ -25,9 +25,9 @@ use morris_index::standing::Standing;
 use morris_moves::backward::sources;
 use std::alloc::{AllocError, Global};
 
-/// Adds the nodes before the quiet moves to `to` from each of `sources` that led to the position of
-/// a node of the first half, in order of the sources. They are of the same row in the second half,
-/// and found by the stones of the side that moved alone.
+/// Adds the predecessors of a node of the first half, whose position this is, by the quiet moves to
+/// `to` from each of `sources`, in order of the sources. They are of the same row in the second
+/// half, and found by the stones of the side that moved alone.
 fn add_into_row<B: Geometry>(
     classes: &ClassPair<B>,
     standing: &Standing,
@@ -56,8 +56,8 @@ fn add_into_row<B: Geometry>(
     Ok(())
 }
 
-/// Adds the nodes before a node of the first half, by where the entries stand of the positions with
-/// the stones of the side with more stones.
+/// Adds the predecessors of a node of the first half, whose position this is. `standing` says where
+/// the entries with its own stones are.
 fn add_in_row<B: Geometry>(
     classes: &ClassPair<B>,
     standing: &Standing,
@@ -111,8 +111,8 @@ pub(crate) fn first_half_row<B: Geometry>(classes: &ClassPair<B>, index: u64) ->
     entries
 }
 
-/// Adds the nodes before those of `nodes` that follow in one row of the first half, from that at
-/// `done` on. Says where the next ones are.
+/// Adds the predecessors of those of `nodes` that follow one another in one row of the first half,
+/// from the one at `done` on. It returns where the next ones are.
 fn add_first_half_predecessors<B: Geometry>(
     classes: &ClassPair<B>,
     nodes: &[u64],
@@ -140,8 +140,9 @@ fn add_first_half_predecessors<B: Geometry>(
     Ok(nodes.len())
 }
 
-/// Adds the nodes before those of `nodes` that follow in one row of the second half, from that at
-/// `done` on, by `unmoves`, a list for the moves of the row. Says where the next ones are.
+/// Adds the predecessors of those of `nodes` that follow one another in one row of the second half,
+/// from the one at `done` on, by `unmoves`, a list for the un-moves of the row. It returns where
+/// the next ones are.
 fn add_second_half_predecessors<B: Geometry>(
     classes: &ClassPair<B>,
     sets: &Classes<B>,
@@ -180,8 +181,8 @@ fn add_second_half_predecessors<B: Geometry>(
     Ok(nodes.len())
 }
 
-/// Adds the nodes before those of `nodes` that follow in one row, from that at `done` on, by
-/// `unmoves`, a list for the moves of the row. Says where the next ones are.
+/// Adds the predecessors of those of `nodes` that follow one another in one row, from the one at
+/// `done` on, by `unmoves`, a list for the un-moves of the row. It returns where the next ones are.
 fn add_row_predecessors<B: Geometry>(
     classes: &ClassPair<B>,
     sets: &Classes<B>,
@@ -206,8 +207,8 @@ fn add_row_predecessors<B: Geometry>(
     }
 }
 
-/// Adds what [`list_predecessors_by_rows`] lists, where nothing is listed. After a refusal some of the nodes
-/// may have been added.
+/// Adds what [`list_predecessors_by_rows`] lists to an empty vector. After a refusal some of the
+/// predecessors may have been added.
 fn add_predecessors_by_rows<B: Geometry>(
     alloc: Global,
     classes: &ClassPair<B>,
@@ -229,8 +230,9 @@ fn add_predecessors_by_rows<B: Geometry>(
     Ok(())
 }
 
-/// Lists the nodes from which a quiet move leads to one of these nodes, each as often as it has
-/// such a move. Nodes that follow one another in the order of their numbers are quick.
+/// Lists the predecessors of these nodes: the nodes from which a quiet move leads to one of them,
+/// each as often as it has such a move. Nodes that follow one another in the order of their numbers
+/// are quick.
 ///
 /// The vector is emptied first. It is empty after a refusal.
 pub(crate) fn list_predecessors_by_rows<B: Geometry>(

@@ -1,5 +1,5 @@
-//! The nodes of a graph by classes, read row by row: all entries of one representative follow one
-//! another.
+//! The nodes of a graph by classes, read row by row: all entries with the same own stones follow
+//! one another.
 ghost use Rattle.std.specs.Prelude.{◌≡◌, ℕ, ◌+◌, ◌<◌, ◌≤◌, min, length, slice_index};
 ghost use Rattle.morris_index.specs.Pairs.{IsPair};
 ghost use Rattle.morris_pairs.specs.Entries.{entry_count};
@@ -19,7 +19,7 @@ use morris_index::entry_rows::EntryRow;
 use morris_wave::Exits;
 use std::alloc::Global;
 
-/// Reads the entries of a row from its first on, as many as there is room for, and says how many
+/// Reads the entries of a row from its first on, as many as there is room for, and returns how many
 /// these are.
 fn read_row<B: Geometry>(
     graph: &PairGraph<B>,
@@ -53,7 +53,7 @@ fn read_row<B: Geometry>(
 
 /// Reads the entries from `first` on, as many as there is room for: the numbers of quiet moves of
 /// their positions, and the summaries of what their captures lead to. Where memory is refused,
-/// nothing is kept from entry to entry.
+/// nothing is cached from entry to entry.
 pub(crate) fn read_rows<B: Geometry>(
     alloc: Global,
     graph: &PairGraph<B>,

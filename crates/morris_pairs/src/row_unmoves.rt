@@ -1,5 +1,4 @@
-//! The quiet moves that led to the stones of the side with more stones, kept for all positions of a
-//! row.
+//! The un-moves of the stones of the side with more stones, listed once for all positions of a row.
 ghost use Rattle.std.specs.Prelude.{◌≡◌, ◌<◌, ◌^◌, nat_eq, true, false, OnOk};
 ghost use Rattle.morris_board.specs.Sets.{has, count_of};
 ghost use Rattle.morris_board.specs.Symmetries.{image_of, inverse_of};
@@ -19,22 +18,24 @@ use morris_index::standing::Standing;
 use morris_moves::rules::in_mill;
 use std::alloc::AllocError;
 
-/// A quiet move that led to the stones of a row, carried by a symmetry. It is one of all positions
-/// of the row in which the point is vacant that the stone left.
+/// An un-move of the stones of a row: a quiet move that led to them, and a symmetry that gives a
+/// predecessor by it. Every position of the row has it in which the point that the stone left is
+/// vacant.
 #[derive(Clone, Copy)]
 pub(crate) struct RowUnmove {
     /// The point from which the stone came.
     from: u8,
     /// The point to which it went.
     to: u8,
-    /// The symmetry that carries the move.
+    /// The symmetry that brings the stones before the move to their canonical form.
     symmetry: u8,
-    /// Where the nodes stand of the positions before it, in which the side that moved has the
-    /// carried stones.
+    /// Where the nodes stand of the positions before the move, in which the side that moved has
+    /// this canonical form.
     standing: Standing,
 }
 
-/// Whether the way back from the image of `stones` under a symmetry is the symmetry that leads it.
+/// Whether a symmetry is in the transversal of `stones`: its inverse is the canonicalizing symmetry
+/// of the image of `stones` under it.
 fn is_in_transversal<B: Geometry>(sets: &Classes<B>, stones: Points, symmetry: u8) -> bool
     requires symmetry { symmetry < B.SYMMETRIES }
     requires stones { stones < 2 ^ B.POINTS }
@@ -45,9 +46,9 @@ fn is_in_transversal<B: Geometry>(sets: &Classes<B>, stones: Points, symmetry: u
     transversal == B::inverse(symmetry)
 }
 
-/// Whether a symmetry carries a move of the side with more stones, from the stones `mover`, whose
-/// representative is `least`, to the stones `stones`: it leads `mover` to the representative, and
-/// the way back is the symmetry that leads the image of `stones`.
+/// Whether a symmetry gives an un-move of `stones`, those of the side with more stones, where
+/// `mover` are the stones before the move and `least` is their canonical form: it brings `mover` to
+/// this, and it is in the transversal of `stones`.
 fn gives_unmove<B: Geometry>(
     sets: &Classes<B>,
     stones: Points,
@@ -65,7 +66,8 @@ fn gives_unmove<B: Geometry>(
     B::image_of(symmetry, mover) == least && is_in_transversal(sets, stones, symmetry)
 }
 
-/// Adds the quiet move to `to` from `from` that led to `stones`, as often as a symmetry carries it.
+/// Adds the un-moves of `stones` by the quiet move to `to` from `from`, one for each symmetry that
+/// gives one.
 fn add_unmoves_from<B: Geometry>(
     classes: &ClassPair<B>,
     sets: &Classes<B>,
@@ -100,7 +102,8 @@ fn add_unmoves_from<B: Geometry>(
     Ok(())
 }
 
-/// Adds the quiet moves to `to` that led to `stones`, which are more than three: they don't jump.
+/// Adds the un-moves of `stones` by the quiet moves to `to`. The stones are more than three: they
+/// don't jump.
 fn add_unmoves_to<B: Geometry>(
     classes: &ClassPair<B>,
     sets: &Classes<B>,
@@ -127,8 +130,8 @@ fn add_unmoves_to<B: Geometry>(
     Ok(())
 }
 
-/// Lists the quiet moves that led to `stones`, each as often as a symmetry carries it. The vector
-/// is emptied first.
+/// Lists the un-moves of `stones`: each quiet move that led to them, once for each symmetry that
+/// gives an un-move by it. The vector is emptied first.
 pub(crate) fn list_unmoves<B: Geometry>(
     classes: &ClassPair<B>,
     sets: &Classes<B>,
@@ -148,8 +151,9 @@ pub(crate) fn list_unmoves<B: Geometry>(
     Ok(())
 }
 
-/// Adds the nodes before a node of the second half, by what is kept of the stones of the side with
-/// more stones. The position is that of the node, turned: in it this side is to move.
+/// Adds the predecessors of a node of the second half, by the un-moves of the stones of the side
+/// with more stones. The position is that of the node with its sides swapped: in it this side is to
+/// move.
 pub(crate) fn add_predecessors_by_unmoves<B: Geometry>(
     classes: &ClassPair<B>,
     unmoves: &[RowUnmove],

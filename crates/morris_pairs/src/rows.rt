@@ -1,4 +1,4 @@
-//! What the moves of the stones of one player are, whatever the opponent has.
+//! The moves of one player's stones, whatever the opponent has.
 ghost use Rattle.std.specs.Prelude.{◌≡◌, ℕ, ◌<◌, ◌^◌, ◌&&◌, not, nat_lt, true, false, length, filter};
 ghost use Rattle.morris_board.specs.Sets.{has, count_of, is_subset};
 ghost use Rattle.morris_moves.specs.Rules.{closes, goes, move_stone, moves_of};
@@ -10,7 +10,7 @@ use morris_board::points::Points;
 use morris_board::position::Position;
 use morris_moves::rules::vacant;
 
-/// What is kept of the stones of one player.
+/// The moves of one player's stones, for all positions in which the player has these.
 #[derive(Clone, Copy)]
 pub(crate) struct Row {
     /// The stones.
@@ -115,7 +115,7 @@ pub(crate) fn closing_at<B: Geometry>(position: &Position<B>) -> Points
 }
 
 impl Row {
-    /// What is to be kept of these stones.
+    /// The row of these stones.
     pub(crate) fn of<B: Geometry>(own: Points) -> Row
         requires { own < 2 ^ B.POINTS }
         ensures own { result.own ≡ own }
@@ -157,7 +157,7 @@ impl Row {
         self.all - gone
     }
 
-    /// Goes on to what is kept of the own stones of a position, where they are others.
+    /// Goes on to the row of the own stones of a position, where these are others.
     pub(crate) fn follow<B: Geometry>(&mut self, position: &Position<B>)
         requires { IsRow B.shape B.POINTS self.old }
         ensures row { IsRow B.shape B.POINTS self.new }

@@ -1,17 +1,18 @@
-//! How much a result is worth to the player whose move leads there.
+//! The score of a result for the player whose move leads there: the better the result, the higher
+//! it is.
 ghost use Rattle.std.specs.Prelude.{◌≡◌};
 ghost use Rattle.morris_pairs.specs.Scores.{score, score_of, code_of_score, IsShort};
 
 use morris_wave::Exits;
 
-/// What a result is worth that is a draw: more than any that is won for the opponent.
+/// The score of a draw: more than that of any result that is won for the opponent.
 const DRAWN: u32 = 131_072;
 
-/// What a result is worth that is lost for the opponent at once. Each ply later it is worth one
-/// less, and always more than a draw.
+/// The score of a result that is lost for the opponent at once. Each ply later it is one less, and
+/// always more than that of a draw.
 const LOST_AT_ONCE: u32 = 300_000;
 
-/// What a result of this code is worth.
+/// The score of a result of this code.
 #[tactic(auto, unfolding(crate::specs::Scores::score))]
 pub(crate) fn score(code: u16) -> u32
     ensures { result ≡ score code }
@@ -26,7 +27,7 @@ pub(crate) fn score(code: u16) -> u32
     }
 }
 
-/// What the best of some results is worth, and 0 where there is none.
+/// The best score of some results, and 0 where there is none.
 #[tactic(auto, unfolding(crate::specs::Scores::score_of))]
 pub(crate) fn score_of(results: Exits) -> u32
     ensures value { result ≡ score_of results }
@@ -42,7 +43,7 @@ pub(crate) fn score_of(results: Exits) -> u32
     if results.drawn { DRAWN } else { won }
 }
 
-/// The code of a position whose best result is worth so much. It may be one more than a code of 16
+/// The code of a position whose best result has this score. It may be one more than a code of 16
 /// bits.
 #[tactic(auto, unfolding(crate::specs::Scores::code_of_score))]
 pub(crate) fn code_of_score(best: u32) -> u32

@@ -1,4 +1,4 @@
-//! What the moves of the stones of one player are, kept for each set of as many stones.
+//! The moves of one player's stones, in a table of all sets of as many stones.
 ghost use Rattle.std.specs.Prelude.{◌≡◌, ◌<◌, ◌^◌, length, filter, OnOk, IfOk};
 ghost use Rattle.morris_moves.specs.Rules.{moves_of};
 ghost use Rattle.morris_pairs.specs.PairNets.{is_quiet};
@@ -11,8 +11,8 @@ use morris_board::points::Points;
 use morris_board::position::Position;
 use std::alloc::{AllocError, Global};
 
-/// What is kept of the stones of one player, whatever the opponent has: of what a [`Row`] has, that
-/// which each position with these stones is read by, in little room.
+/// The moves of one player's stones, whatever the opponent has: the part of a [`Row`] by which
+/// positions with these stones are read, in little room.
 #[derive(Clone, Copy)]
 pub(crate) struct SetMoves {
     /// The stones.
@@ -26,7 +26,7 @@ pub(crate) struct SetMoves {
 }
 
 impl SetMoves {
-    /// What is to be kept of these stones.
+    /// The moves of these stones.
     pub(crate) fn of<B: Geometry>(own: Points) -> SetMoves
         requires { own < 2 ^ B.POINTS }
         ensures own { result.own ≡ own }
@@ -58,16 +58,16 @@ impl SetMoves {
 /// How many sets of the points 0 to 11 there are, and so of the points 12 to 23.
 const PARTS: usize = 4096;
 
-/// What is kept of each set of as many points, in ascending order of their masks: those that have
-/// the same points from 12 on follow one another.
+/// The moves of each set of as many points, in ascending order of the masks: sets that have the
+/// same points from 12 on follow one another.
 #[derive(Drop)]
 pub(crate) struct SetTable {
-    /// For each set of points from 12 on the place of the first set that has these, less the rank
+    /// For each set of points from 12 on, the place of the first set that has these, less the rank
     /// of its other points.
     starts: Vec<usize>,
-    /// For each set of points below 12 its rank: how many of as many points come before it.
+    /// For each set of points below 12 its rank: how many sets of as many points come before it.
     ranks: Vec<usize>,
-    /// What is kept of the sets.
+    /// The sets, each with its moves.
     pub(crate) sets: Vec<SetMoves>,
 }
 
@@ -92,7 +92,7 @@ fn part_ranks(alloc: Global) -> Result<Vec<usize>, AllocError> {
 }
 
 impl SetTable {
-    /// What is to be kept of each set of `count` points.
+    /// The table of all sets of `count` points.
     ///
     /// # Errors
     /// [`AllocError`] where memory for it is refused.
@@ -113,7 +113,7 @@ impl SetTable {
         Ok(table)
     }
 
-    /// Keeps what is to be kept of a set, behind the others.
+    /// Adds a set at the end of the table.
     fn push<B: Geometry>(&mut self, set: Points) -> Result<(), AllocError>
         requires within { set < 2 ^ B.POINTS }
         requires tabled { AreSetsTabled B.shape B.POINTS self.old }
@@ -124,7 +124,7 @@ impl SetTable {
         Ok(())
     }
 
-    /// Keeps that a set is to stand behind those that are kept.
+    /// Notes that a set is to stand at the end of the table.
     fn fill_place(&mut self, set: Points)
         ensures { self.new.sets ≡ self.old.sets }
     {
@@ -134,7 +134,8 @@ impl SetTable {
         }
     }
 
-    /// Where a set stands if it is kept. Any place will do: the set that stands there is looked at.
+    /// Where a set stands, if the table has it. Any place will do, since the set that stands there
+    /// is compared with it.
     fn place_of(&self, set: Points) -> usize {
         let (low, high) = parts_of(set);
         match (self.ranks.get(low), self.starts.get(high)) {
@@ -143,7 +144,7 @@ impl SetTable {
         }
     }
 
-    /// What is kept of a set, and made anew where the set isn't kept.
+    /// The moves of a set, made anew where the table doesn't have it.
     pub(crate) fn moves_of<B: Geometry>(&self, set: Points) -> SetMoves
         requires within { set < 2 ^ B.POINTS }
         requires tabled { AreSetsTabled B.shape B.POINTS self.now }

@@ -1,4 +1,4 @@
-//! Tables made on one thread by a plain way.
+//! The baseline: tables made on one thread.
 ghost use Rattle.std.specs.Prelude.{◌≡◌, None, IfOk, IfErr, OnOk};
 ghost use Rattle.morris_pairs.specs.Shelves.{first_missing};
 ghost use Rattle.morris_pairs.specs.Building.{IsBuilt, IsUnswept};
@@ -17,8 +17,8 @@ use std::alloc::Global;
 ///
 /// # Errors
 /// `Needs` with the first of the pairs that the pair needs whose table isn't on the shelf, before
-/// all else. Then `Memory` where memory is refused, and `TooDeep` where a code of 16 bits can't
-/// tell all values.
+/// all else. Then `Memory` where memory is refused, and `TooDeep` where codes of 16 bits can't
+/// state all values.
 pub fn sweep_pair<B: Board>(
     alloc: Global,
     shelf: &Shelf<B>,
@@ -31,11 +31,11 @@ pub fn sweep_pair<B: Board>(
     sweep_pair_watched(alloc, shelf, pair, &mut NoProgress)
 }
 
-/// [`sweep_pair`], which tells `watch` of each wave as it begins (see [`Watch`]).
+/// [`sweep_pair`], which reports each wave to `watch` as it begins (see [`Watch`]).
 ///
 /// # Errors
-/// Those of [`sweep_pair`], in the same order. The watch is told nothing before the graph of the
-/// pair is made.
+/// Those of [`sweep_pair`], in the same order. Nothing is reported before the graph of the pair is
+/// made.
 pub fn sweep_pair_watched<B: Board, W: Watch>(
     alloc: Global,
     shelf: &Shelf<B>,
@@ -45,7 +45,7 @@ pub fn sweep_pair_watched<B: Board, W: Watch>(
     ensures ready { OnOk result (first_missing shelf.now pair ≡ None) }
     ensures exact { IfOk result (IsBuilt B.shape Layout.Full pair) }
     ensures refused { IfErr result (IsUnswept B.shape shelf.now pair) }
-    // The watch is as it may be after it was told, whatever the answer.
+    // The watch is as it may be after reports, whatever the answer.
     ensures watched { W.becomes watch.old watch.new }
 {
     let graph = PairGraph::new(shelf, pair)?;

@@ -16,7 +16,7 @@ use std::marker::Model;
 const PLACES: usize = 49;
 
 /// The exact tables of some pairs. Those that no pair to come needs can be let go: a pair needs
-/// tables of one stone less than its own, and no others, so whoever builds pair after pair keeps
+/// tables of one stone less than its own, and no others, so whoever builds pair after pair holds
 /// those of two neighbouring numbers of stones.
 #[derive(Drop)]
 pub struct TableSet<B: Geometry> {
@@ -49,7 +49,7 @@ impl<B: Geometry> TableSet<B> {
         Ok(TableSet { tables })
     }
 
-    /// Keeps a table, in the place of the one of its pair that is there.
+    /// Puts a table into the set, in the place of the one of its pair that is there.
     pub fn put(&mut self, table: Exact<B>)
         ensures this { table_on self.new table.pair ≡ Some table }
         ensures others { (c : Counts) → c ≢ table.pair → table_on self.new c ≡ table_on self.old c }

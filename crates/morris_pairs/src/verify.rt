@@ -1,4 +1,4 @@
-//! Tables that are looked at before they are believed.
+//! Tables that are verified before they are believed.
 ghost use Rattle.std.specs.Prelude.{◌≡◌, ◌<◌, ◌≤◌, ◌↔◌, ℕ, None, IsTrue, is_ok, IfOk, IfErr, IfSome, MatchOption};
 ghost use Rattle.morris_pairs.specs.Entries.{entry_count};
 ghost use Rattle.morris_pairs.specs.Tables.{IsTable};
@@ -55,18 +55,18 @@ impl<B: Board> Raw<B> {
         judge(self, differing)
     }
 
-    /// [`verify`](Raw::verify) over a set of tables, by so many workers, 1 to 64, who share the
-    /// entries out among them. The answer is the same for every number of them. Where memory or a
-    /// thread is refused, the caller's own thread does the work.
+    /// [`verify`](Raw::verify) over a set of tables, by so many workers, 1 to 64, to whom the
+    /// entries are dealt out in chunks. The answer is the same for every number of them. Where
+    /// memory or a thread is refused, the caller's own thread does the work.
     ///
-    /// It tells `watch` how many entries are done, after each 4,194,304 of them and after the last
-    /// one (see [`Watch`]). Where an entry of a table by classes doesn't agree, or memory for its
-    /// lists is refused, the entries are gone through a second time, in order, and the watch is
-    /// told of them from the first one on again.
+    /// It reports to `watch` how many entries are done, after each 4,194,304 of them and after the
+    /// last one (see [`Watch`]). Where an entry of a table by classes doesn't agree, or memory for
+    /// its lists is refused, the entries are gone through a second time, in order, and reported
+    /// from the first one on again.
     ///
     /// # Errors
-    /// Those of [`verify`](Raw::verify), in the same order. The watch is told nothing where the
-    /// table of a pair is missing.
+    /// Those of [`verify`](Raw::verify), in the same order. Nothing is reported where the table of
+    /// a pair is missing.
     pub fn verify_watched<R: Threads + Sync, W: Watch>(
         self,
         rt: &R,
@@ -77,7 +77,7 @@ impl<B: Board> Raw<B> {
     ) -> Result<Exact<B>, (Raw<B>, VerifyFault<B>)>
         requires { (1 ≤ workers) × (workers ≤ 64) }
         ensures verified { Verifies B.shape B.POINTS (first_missing tables.now self.pair) self result }
-        // The watch is as it may be after it was told, whatever the answer.
+        // The watch is as it may be after reports, whatever the answer.
         ensures watched { W.becomes watch.old watch.new }
     {
         let graph = match PairGraph::over(tables, self.pair()) {

@@ -18,7 +18,7 @@ use sha2::{Digest, Sha256};
 /// How many bytes are written at a time, at most.
 const CHUNK: usize = 4096;
 
-/// Writes the file of a table, in pieces of several KiB: version 1 in layout `Full`, version 2 in
+/// Writes the file of a table, in chunks of several KiB: version 1 in layout `Full`, version 2 in
 /// layout `Classes`. It takes no memory.
 ///
 /// Fewer than `u64::MAX` calls of the sink may have failed before.

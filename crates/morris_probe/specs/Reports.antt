@@ -12,11 +12,11 @@ use Rattle.morris_probe.specs.Lines.{line, move_line, value_line}
 use Rattle.morris_probe.specs.declared.fault.ProbeFault.{ProbeFault}
 use Rattle.morris_probe.specs.declared.fault.ProbeFault.TheVariants.{Needs, Memory, Write}
 
--- the position's text, its value, and each of the moves, one a line
+-- the position string, the value, and each of the moves, one a line
 unfoldable pub report_text : Shape → Sides → Value → List Move → List ℕ
 report_text board s value moves = line (text_of board s) ++ value_line value ++ flat_map move_line moves
 
--- the text has the value of the position in the game, and exactly its best moves, in order
+-- the text has the value of the position in the game, and exactly its best moves, in their order
 pub record IsReport (board : Shape) (s : Sides) (text : List ℕ) : Type 0 where
   pub value : Value
   pub moves : List Move

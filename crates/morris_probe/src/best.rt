@@ -18,7 +18,7 @@ use morris_pairs::shelf::Shelf;
 use morris_pairs::value::Value;
 use std::alloc::{AllocError, Global};
 
-/// The best moves of a position, in order of from, then to, then taken: where it is won or lost in
+/// The best moves of a position, ordered by from, then to, then taken: where it is won or lost in
 /// `d` plies, `d` above 0, the legal moves whose result has the opposite outcome in `d - 1` plies;
 /// where it is a draw, those whose result is a draw; at depth 0 none. Where there is a legal move
 /// there is a best one. It finds one index for the position and one for each legal move, and asks

@@ -1,5 +1,5 @@
-// What is answered to texts over the files of 3-3 and 4-3 on `grid`, in either version. The values
-// and moves follow from the rules.
+// What is answered to strings over the files of 3-3 and 4-3 on `grid`, in either version. The
+// values and moves follow from the rules.
 use crate::checks::holds;
 use crate::held::Held;
 use crate::making::file_of;
@@ -18,7 +18,7 @@ use std::rt::Files;
 use std::sync::Wait;
 use std::thread::Threads;
 
-/// Texts are answered by this text and this number of faults.
+/// Strings are answered by this text and this number of faults.
 pub(crate) fn assert_asked<L: Library>(
     rt: &(impl Abort + AllocGlobal),
     held: &mut L,
@@ -170,8 +170,8 @@ fn files_by_classes_answer(rt: HostRuntime) {
     assert_files_answer(&rt, Layout::Classes);
 }
 
-/// This is answered to texts on a board over a folder of this path, by this fault and for this
-/// reason, and nothing is written.
+/// Strings on a board over a folder of this path are answered by this fault, for this reason, and
+/// nothing is written.
 fn assert_refused<R: Files<File = File> + AllocGlobal + Abort>(
     rt: &R,
     board: &str,

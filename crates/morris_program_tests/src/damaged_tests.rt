@@ -33,7 +33,7 @@ fn set_code(bytes: &mut [u8], entry: usize, code: u16) {
     }
 }
 
-/// This is answered over the file, to a text by itself, with so many faults.
+/// This is answered over the file to a string alone, with so many faults.
 fn assert_answers(
     rt: &(impl Abort + AllocGlobal),
     small: &[u8],
@@ -65,7 +65,7 @@ const DRAWN_FAULT: &str = "\
 XXXOOO...: fault 37: the files of this position and its moves disagree
 ";
 
-/// The three answers to a text are this fault.
+/// The three answers to a string are this fault.
 fn assert_disagrees(rt: &(impl Abort + AllocGlobal), small: &[u8], text: &str, fault: &str) {
     assert_answers(rt, small, text, Show::Best, fault, 1);
     assert_answers(rt, small, text, Show::Moves, fault, 1);

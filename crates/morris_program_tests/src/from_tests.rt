@@ -23,7 +23,7 @@ const FIRST: &str = "verified 3-3: 1680 entries\n";
 
 const BOTH: &str = "verified 3-3: 1680 entries\nverified 4-3: 2520 entries\n";
 
-/// Counts the entries that it is told.
+/// Counts the entries that are reported to it.
 #[derive(Drop)]
 struct Tally {
     whole: u64,

@@ -20,7 +20,7 @@ const FIRST: &str =
 const SECOND: &str =
     "4-3 2520 entries 5088 bytes d8deb5fa7254d81b0c875ea8de2c9ba02ef7ccbda064d75c7ff60a2b862dcc32\n";
 
-/// The file of the digests.
+/// The list of digests.
 const DIGESTS: &str =
     "f8c48a20f96d424748ed4c631d94d98d80b8b00be2f17eb8132b233d2b184076  grid-3-3.nmmt
 d8deb5fa7254d81b0c875ea8de2c9ba02ef7ccbda064d75c7ff60a2b862dcc32  grid-4-3.nmmt
@@ -46,7 +46,7 @@ fn build_onto(
 ) -> (Result<(), Fault>, Vec<u8>) {
     let alloc = rt.alloc();
     let mut output = IntoWrite::new(Vec::new(alloc));
-    // More than half of the calls that a count can tell may not have failed before.
+    // No more than half of the calls that a count can count may have failed before.
     if folder.failures() > 64 {
         return (Err(Fault::Memory), output.into_inner());
     }
@@ -204,7 +204,7 @@ fn the_digests_of_other_files_are_kept(rt: HostRuntime) {
     assert_file(&rt, &folder, "grid.sha256", wanted.as_slice());
 }
 
-// The first file isn't renamed: the list has forgotten those that were to be replaced.
+// The first file isn't renamed: the list has dropped those that were to be replaced.
 #[test]
 fn the_digests_of_files_to_be_replaced_are_forgotten_first(rt: HostRuntime) {
     let mut folder = folder_with(&rt, 1 << 12, &[STALE.as_bytes(), OTHER.as_bytes()]);

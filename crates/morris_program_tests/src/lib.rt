@@ -1,5 +1,22 @@
 //! Tests of what no run of the program shows: folders whose calls fail, `verify_in`, which the
 //! program doesn't call, and answers from files in memory. No part of the product.
+//!
+//! Tests of commands over a folder:
+//! - `into_tests`: `build --into`
+//! - `from_tests`: `verify --from`
+//!
+//! Tests of commands over table files in memory:
+//! - `asking_tests`: answers to position strings
+//! - `line_tests`: answers to the lines of an input
+//! - `damaged_tests`: answers from files that disagree
+//! - `failing_tests`: answers that can't be written
+//! - `finding_tests`: `find` and `stats --from`
+//! - `verify_in_tests`: `verify_in`
+//!
+//! What tests need:
+//! - `making`: table files
+//! - `held`: a library of files in memory
+//! - `checks`: comparisons
 #![tactic(auto)]
 
 #[cfg(test)]

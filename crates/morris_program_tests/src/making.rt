@@ -1,4 +1,4 @@
-// The files of which tests are made. A test ends where memory is refused.
+// The files that tests are made with. A test ends where memory is refused.
 use morris_board::streams::IntoWrite;
 use morris_commands::build::build_out;
 use morris_pairs::layout::Layout;
@@ -35,7 +35,7 @@ pub fn copied(rt: &(impl Abort + AllocGlobal), bytes: &[u8]) -> Vec<u8> {
     Vec::from_slice(rt.alloc(), bytes).expect(rt, "memory")
 }
 
-/// Texts or files one after the other.
+/// Strings or files, one after the other.
 pub fn joined(rt: &(impl Abort + AllocGlobal), parts: &[&[u8]]) -> Vec<u8> {
     let mut whole = Vec::new(rt.alloc());
     for part in parts {

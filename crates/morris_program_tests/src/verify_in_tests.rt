@@ -25,7 +25,7 @@ fn assert_verifies(
     assert_answered(rt, answer, output.into_inner().as_slice(), wanted, text);
 }
 
-/// `verify_in` tells that the file of a pair is right, with such a text.
+/// `verify_in` states that the file of a pair is right, with such a text.
 fn assert_right(
     rt: &(impl Abort + AllocGlobal + Threads + Wait + Sync),
     pair: &str,

@@ -1,5 +1,5 @@
--- What an answer is, and how what went out of one text, and then of the next, makes up what went
--- out of both.
+-- What an answer is, and how what went out for one string, and then for the next, makes up what
+-- went out for both.
 use Rattle.std.proofs.Common.{◌≡◌, ℕ, ◌+◌, ◌^◌, ◌<◌, ◌≤◌, List, [], ◌∷◌, ◌++◌, Bor, get_or, take, map, length, Option, Some, Result, Ok, Err, refl, sym, ap, subst, ◌∙◌, inl, inr, arith, length-append, append-nil, append_assoc}
 use Rattle.std.specs.Prelude.{IfOk, is_err, if◌then◌else◌}
 use Rattle.std.specs.Io.KnownBytes.{Appends}
@@ -30,7 +30,7 @@ use Rattle.morris_queries.specs.Reports.{Agrees, IsListed, reported_to, reported
 
 -- ---- one answer
 
--- a text that is no position's
+-- a text that isn't a position string
 pub answer_refused : (board : Shape) (name : List ℕ) (known : Option Files) (show : Show) (text : List ℕ) (fault : TextFault)
     → read_of board text ≡ Err fault → IsAnswer board name known show text (Err (text_fault fault))
 unfolding reported_text
@@ -63,7 +63,7 @@ answer_reported board name known show text s answer e legal reported exact = rec
 pub went_in : (old new : Option (List ℕ)) (text : List ℕ) (sent : ℕ) → WentOut {T = ℕ} old new text (Err sent) → length text < 2 ^ 63 → WentIn old new text sent
 went_in old new text sent out few = (sent, out.0, out.1, omega (arith, out.0, few))
 
--- ---- texts that were answered
+-- ---- strings that were answered
 
 -- what stands before all answers is short
 head_short : (kind : Show) → length (head_text kind) ≤ 32
@@ -114,7 +114,7 @@ module _ (board : Shape) (name : List ℕ) (known : Option Files) (show : Show) 
   counts : (was n one m now : ℕ) → was ≡ count_up_to n → now ≡ count_up_to (was + one) → m ≡ n + one → now ≡ count_up_to m
   counts was n one m now was_is now_is m_is = omega (arith, was_is, now_is, m_is)
 
-  -- where a write of the next answer failed, it stops among texts that begin with these
+  -- where a write of the next answer failed, it stops among strings that begin with these
   pub strings_stopped : (all strings : List (List ℕ)) (n : ℕ) (text : List ℕ) (old mid new : Option (List ℕ)) (before after : Tally) (answered : Result Answered ℕ) (refusal : Fault)
       → AreOut board name known show strings old mid before → AnswersString board name known show text mid new answered
       → IsTallied before after answered (Err refusal) → take n all ≡ strings ++ text ∷ [] → StopsIn board name known show all old new refusal
@@ -140,18 +140,18 @@ module _ (board : Shape) (name : List ℕ) (known : Option Files) (show : Show) 
         ),
       )
 
-  -- what stops among texts is answered of them
+  -- what stops among strings is answered of them
   pub stopped_strings : (strings : List (List ℕ)) (old new : Option (List ℕ)) (refusal : Fault) → StopsIn board name known show strings old new refusal
       → AnswersStrings board name known show strings old new (Err refusal)
   stopped_strings strings old new (fault.Write sent) h = h
   stopped_strings strings old new _ h = absurd h
 
-  -- the answers to all texts went out
+  -- the answers to all strings went out
   pub all_out : (strings : List (List ℕ)) (old new : Option (List ℕ)) (tally : Tally) → AreOut board name known show strings old new tally
       → AnswersStrings board name known show strings old new (Ok tally.refused)
   all_out strings old new tally h = (h.given, h.are, h.out, h.refused)
 
-  -- where none failed, the answers to one text more are out
+  -- where none failed, the answers to one string more are out
   pub strings_more : (strings : List (List ℕ)) (text : List ℕ) (old mid new : Option (List ℕ)) (before after : Tally) (answered : Result Answered ℕ)
       → AreOut board name known show strings old mid before → AnswersString board name known show text mid new answered
       → IsTallied before after answered (Ok tt) → AreOut board name known show (strings ++ text ∷ []) old new after
@@ -170,7 +170,7 @@ module _ (board : Shape) (name : List ℕ) (known : Option Files) (show : Show) 
             (refused_more all.given text answer);
       }
 
--- the failures of the sink, after what was counted of the next text
+-- the failures of the sink, after what was counted of the next string
 pub counts_stopped : (T : Type 0) (old mid new : ℕ) (before after : Tally) (answered : Result Answered ℕ) (refusal : Fault) → mid ≡ old → CountsFailure mid new answered
     → IsTallied before after answered (Err refusal) → CountsWrites {T = T} old new (Err refusal)
 counts_stopped T old mid new before after (Ok done) refusal same counted tallied = let no : Err refusal ≡ Ok tt = tallied.0 in cc
@@ -183,7 +183,7 @@ pub counts_on : (old mid new : ℕ) (before after : Tally) (answered : Result An
 counts_on old mid new before after (Ok done) same counted tallied = counted ∙ same
 counts_on old mid new before after (Err sent) same counted tallied = cc
 
--- ---- a list of texts
+-- ---- a list of strings
 
 pub text_next : (strings : List (Bor (List ℕ))) (i : ℕ) (d : Bor (List ℕ)) (text : List ℕ) → i < length strings → text ≡ (get_or strings i d).now
     → take (i + 1) (map (λ (t : Bor (List ℕ)). t.now) strings) ≡ take i (map (λ (t : Bor (List ℕ)). t.now) strings) ++ text ∷ []

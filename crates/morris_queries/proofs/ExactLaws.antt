@@ -1,4 +1,4 @@
--- What is told where the files of a folder are those of exact tables is the game's.
+-- What is reported where the files of a folder are those of exact tables is the game's.
 use Rattle.std.proofs.Common.{◌≡◌, ◌≢◌, ℕ, zero, suc, ◌≤◌, ◌<◌, true, false, Bool, eqb, leb, List, [], ◌∷◌, map, length, Option, Some, None, Result, Ok, Err, refl, sym, ap, ap₂, subst, ◌∙◌, inl, inr, arith}
 use Rattle.std.specs.Prelude.{IfSome, ◌&&◌, ◌||◌, slice_get}
 use Rattle.std.specs.List.{Contains}
@@ -43,9 +43,9 @@ use Rattle.morris_queries.proofs.OpenLaws.{framed_found}
 use Rattle.morris_queries.proofs.AgreeLaws.{follows}
 use Rattle.morris_queries.proofs.TellingLaws.{agreed, from_same}
 
--- ---- steps that find what is so
+-- ---- results that are right
 
--- what a step finds is so, and it isn't refused because the files disagree
+-- what a result holds is so, and it isn't refused because the files disagree
 abbrev IsSound : {A : Type 0} → (A → Type 0) → Result A Fault → Type 0
 IsSound P (Ok found) = P found
 IsSound P (Err refused) = refused ≢ fault.Disagree
@@ -161,7 +161,7 @@ module _ (board : Shape) (few : board.points ≤ 24) (y : HasSymmetries board) (
 
 -- ---- a position and its line
 
--- what is told of it is right
+-- the report of it is right
 record IsRight (board : Shape) (s : Sides) (t : PositionReport) : Type 0 where
   value : IsValue board s t.value
   lead : (o : Outcome) → Contains t.outcomes o → LeadsTo board s o
@@ -210,7 +210,7 @@ module _ (board : Shape) (few : board.points ≤ 24) (y : HasSymmetries board) (
       subst (IsSound (IsRight board s)) (sym (from_same value os same))
       (record { value = here; lead = each_valued.1; known = known; best = best_right board s value os each_valued.0 each_valued.1 here })))
 
-  -- the line of so many plies, from each position of which this is told
+  -- the line of so many plies, from each position that has this report
   abbrev GoesOn : ℕ → Type 0
   GoesOn n = (s : Sides) → IsPosition board s → AreExactWithin board name files n s → (t : PositionReport) → IsRight board s t → depth_of t.value ≡ n
       → IsSound (IsBestLine board s t.value) (reported_line board name files n s (slice_get t.best 0))
@@ -247,7 +247,7 @@ module _ (board : Shape) (few : board.points ≤ 24) (y : HasSymmetries board) (
           (λ rest. Ok (played m next u.value ∷ rest)) (on next lawful within u own (one_less t.value u.value k deep orbit))
           (λ rest goes. (record { best = (there.0, (t.value, right.value, leads)); leads = refl }, orbit, own.value, goes)))
 
-  -- ---- what is told
+  -- ---- the report
 
   near_in : (what : Show) (s : Sides) → AreExactIn board name files what s → AreExactNear board name files s
   near_in show.Line s exact = exact 0

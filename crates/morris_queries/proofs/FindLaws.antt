@@ -1,4 +1,4 @@
--- What looking for positions answers, by what became of its steps.
+-- What looking for positions answers, by what became of its parts.
 use Rattle.std.proofs.Common.{◌≡◌, ℕ, ◌+◌, ◌-◌, ◌^◌, ◌<◌, ◌≤◌, ◌∙◌, Bool, true, false, List, [], Option, Result, Ok, Err, refl, sym, subst, inl, inr, arith, length, length-append}
 use Rattle.std.specs.Prelude.{IfSome, IsOk, if◌then◌else◌}
 use Rattle.std.proofs.KnownBytes.{Keeps-refl}
@@ -69,9 +69,9 @@ module _ (board : Shape) (few : board.points ≤ 24) (y : HasSymmetries board) (
             counted,
       ))
 
--- ---- texts that went into a printer that was new
+-- ---- strings that went into a printer that was new
 
--- the texts are few enough to be counted
+-- the strings are few enough to be counted
 strings_few : (board : Shape) (ps : List Sides) → board.points ≤ 24 → length ps ≤ 2 ^ 51 → length (found_text board ps) < 2 ^ 64
 unfolding found_text
 strings_few board ps points few = omega (arith, flat_map_few (λ s. line (text_of board s)) 25 (line_few board points) ps, few)
@@ -79,7 +79,7 @@ strings_few board ps points few = omega (arith, flat_map_few (λ s. line (text_o
     line_few : (board : Shape) → board.points ≤ 24 → (s : Sides) → length (line (text_of board s)) ≤ 25
     line_few board points s = simp length-append (omega (arith, points, text_few board s))
 
--- where all is told as sent, no write has failed
+-- where all is reported as sent, no write has failed
 well_reported : (failed : Bool) (n sent : ℕ) → ◌≡◌ {A = Result ℕ ℕ} (if failed then Err n else Ok n) (Ok sent) → failed ≡ false
 well_reported false n sent is = refl
 well_reported true n sent is = cc
@@ -113,7 +113,7 @@ module _ {S : Type 0} (contents : S → Option (List ℕ)) (failures : S → ℕ
   abbrev Answered : Result (Unit {0}) Fault → Type 0
   Answered result = AnswersFind board entries all wanted (Strings most) (contents (sink_of a)) (contents (sink_of b)) result
 
-  -- the texts of all that are found, or the first bytes of these
+  -- the strings of all that are found, or the first bytes of these
   printed : (result : Result (Unit {0}) Fault) → Prints (contents (sink_of a)) (contents (sink_of b)) text result → (IsOk result → IsOk r × (has_failed_of m ≡ false)) → Answered result
   printed result out whole = inr (inr (
     (put.positions, out),

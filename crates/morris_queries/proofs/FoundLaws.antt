@@ -193,7 +193,7 @@ pub stated_inside : (board : Shape) (few : board.points ≤ 24) (y : HasSymmetri
     → IsStated board t all kind s → entry_index board board.points t.layout t.pair s < entry_count board board.points t.layout t.pair
 stated_inside board few y t pair all kind s a = (laid board few y t.layout t.pair pair).below s a.lawful a.of
 
--- the texts of some positions and of others
+-- the strings of some positions and of others
 pub found_text-append : (board : Shape) (ps qs : List Sides) → found_text board (ps ++ qs) ≡ found_text board ps ++ found_text board qs
 unfolding found_text
 found_text-append board ps qs = flat_map-append (λ s. line (text_of board s)) ps qs
@@ -203,8 +203,8 @@ pub found_text-push : (board : Shape) (ps : List Sides) (p : Sides) → found_te
 unfolding found_text
 found_text-push board ps p = found_text-append board ps (p ∷ []) ∙ ap (λ text. found_text board ps ++ text) (append-nil (line (text_of board p)))
 
--- the position that has an entry for its own is the only one that is shown, where no other is asked
--- for or each has an entry of its own
+-- the position with an entry of its own is the only one of that entry that is shown, where no other
+-- is asked for or each has an entry of its own
 module _ (board : Shape) (few : board.points ≤ 24) (y : HasSymmetries board) (l : Layout) (c : Counts) (pair : IsPair board.points c) (all : Bool)
     (how : (all ≡ false) ⊎ (l ≡ Full)) (p : Sides) (lawful : IsPosition board p) (of : is_of c p ≡ true) (own : has_own_entry board l p ≡ true) (e : ℕ)
     (at : entry_index board board.points l c p ≡ e) where
@@ -228,7 +228,7 @@ module _ (board : Shape) (few : board.points ≤ 24) (y : HasSymmetries board) (
         (Contains-push [] p)),
   )
 
--- all positions that share an entry, in a file by classes
+-- all positions of an entry's orbit, in a file by classes
 pub shared_listed : (board : Shape) (n : ℕ) → board.points ≡ n → (l : Layout) (c : Counts) (all : Bool) → all ≡ true → l ≡ Classes → (e : ℕ) (ps : List Sides)
     → ((s : Sides) → Contains ps s ↔ HasEntry board n c e s) → (s : Sides) → Contains ps s ↔ IsOfEntry board l c all e s
 shared_listed board n points l c all every classes e ps listed s = (
@@ -249,7 +249,7 @@ shared_listed board n points l c all every classes e ps listed s = (
   })),
 )
 
--- the text of one position
+-- the string of one position
 pub own_text : (board : Shape) (most : ℕ) (p : Sides) → 0 < most → found_text board (take most (p ∷ [])) ≡ line (text_of board p)
 unfolding found_text
 own_text board most p some =

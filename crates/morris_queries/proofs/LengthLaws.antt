@@ -1,4 +1,4 @@
--- How long the texts are at most that are printed, so that their bytes can be counted.
+-- How long the printed texts are at most, so that their bytes can be counted.
 use Rattle.std.proofs.Common.{◌≡◌, ℕ, ◌+◌, ◌*◌, ◌^◌, ◌<◌, ◌≤◌, ◌&&◌, List, [], ◌∷◌, ◌++◌, codes, length, length-take, take, arith, length-append}
 use Rattle.std.specs.Prelude.{nat_eq, nat_le}
 use Rattle.std.specs.List.{flat_map}

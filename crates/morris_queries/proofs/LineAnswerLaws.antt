@@ -26,10 +26,10 @@ use Rattle.morris_queries.specs.Reports.{Agrees, PositionReport, reported_to, re
 use Rattle.morris_queries.proofs.AnswerLaws.{all_out, strings_more, strings_stopped}
 use Rattle.morris_queries.proofs.LineLaws.{begun_after-byte, begun_after-feed, passed_over-start, text_in-start, strings_ended-append, strings_ended-byte, strings_ended-feed, strings_ended-passed}
 
--- ---- the first 25 bytes of a text tell its answer
+-- ---- the first 25 bytes of a text settle its answer
 
 module _ (board : Shape) (few : board.points ≤ 24) (k t : List ℕ) (start : take 25 k ≡ take 25 t) where
-  -- the two are one text, or both are too long for a position's
+  -- the two are one text, or both are too long for a position string
   same_or_long : (k ≡ t) ⊎ ((24 < length k) × (24 < length t))
   same_or_long = elim (cases_lt 24 (length k)) [
     | inl long ↦ inr (long, omega (arith, long, ap length start, length-take 25 k, length-take 25 t))
@@ -152,7 +152,7 @@ module _ (board : Shape) (name : List ℕ) (known : Option Files) (show : Show) 
       (strings_stopped board name known show (strings_ended read ++ text ∷ []) (strings_ended read) (length (strings_ended read ++ text ∷ [])) text old mid new before after answered refusal h.out
       (answers_line board few (begun_after [] read) line name known show mid new answered h.retained answers) tallied (take_all _ (strings_ended read ++ text ∷ []) (omega arith)))
 
-  -- what stopped among some texts stopped among more
+  -- what stopped among some strings stopped among more
   stops_longer : (strings more : List (List ℕ)) (old new : Option (List ℕ)) (refusal : Fault) → StopsIn board name known show strings old new refusal
       → StopsIn board name known show (strings ++ more) old new refusal
   stops_longer strings more old new (fault.Write sent) h =
@@ -194,7 +194,7 @@ module _ (board : Shape) (name : List ℕ) (known : Option Files) (show : Show) 
       → AnswersLines board name known show before after old new result → ⊥
   found_then before after old new result e h = subst (AnswersLines board name known show before after old new) e h
 
--- ---- the bytes of a piece
+-- ---- the bytes of a chunk
 
 pub read_more : (read bytes : List ℕ) (i : ℕ) → i < length bytes → (read ++ take i bytes) ++ get_or bytes i 0 ∷ [] ≡ read ++ take (i + 1) bytes
 read_more read bytes i low = append_assoc read (take i bytes) (get_or bytes i 0 ∷ []) ∙ ap (λ l. read ++ l) (sym (take_more bytes i 0 low))

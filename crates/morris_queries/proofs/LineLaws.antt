@@ -1,5 +1,5 @@
--- How the lines of bytes go on with the bytes after them, and what the first bytes of a line tell of
--- its text.
+-- How the lines of bytes go on with the bytes after them, and what the first bytes of a line settle
+-- of its text.
 use Rattle.std.proofs.Common.{◌≡◌, ℕ, ◌-◌, ◌≤◌, ◌<◌, Bool, true, false, List, [], ◌∷◌, ◌++◌, map, take, length, refl, sym, ap, ◌∙◌, inl, inr, arith, length-append, append-nil, filter}
 use Rattle.std.specs.Prelude.{nat_eq, not, slice_index}
 use Rattle.std.proofs.lemmas.Bool.{cases_lt}
@@ -74,7 +74,7 @@ begun_after-byte xs b other =
 
 -- ---- the first bytes of a line
 
--- another byte of the line is kept where there is room
+-- another byte of the line is retained where there is room
 pub unchanged-short : (line : List ℕ) (b : ℕ) → length (take 26 line) < 26 → take 26 line ++ b ∷ [] ≡ take 26 (line ++ b ∷ [])
 unchanged-short line b low =
     let short : length line < 26 = omega (arith, low, length-take 26 line) in
@@ -87,7 +87,7 @@ unchanged-full line b full =
     let long : 26 ≤ length line = omega (arith, full, length-take 26 line) in
     sym (take-append-le 26 line (b ∷ []) long)
 
--- a line that is long enough tells no less without its last byte
+-- a line that is long enough settles no less without its last byte
 text_in-long : (line : List ℕ) → 26 ≤ length line → take 25 (text_in line) ≡ take 25 line
 text_in-long line long = go (nat_eq (slice_index line (length line - 1)) 13) refl
   where
@@ -95,7 +95,7 @@ text_in-long line long = go (nat_eq (slice_index line (length line - 1)) 13) ref
     go true e = rw e (take-take 25 (length line - 1) line (omega (arith, long)))
     go false e = rw e refl
 
--- the first bytes of a line tell the first bytes of its text
+-- the first bytes of a line settle the first bytes of its text
 pub text_in-start : (line : List ℕ) → take 25 (text_in (take 26 line)) ≡ take 25 (text_in line)
 text_in-start line = elim (cases_lt 26 (length line)) [
   | inr short ↦ ap (λ l. take 25 (text_in l)) (take_all 26 line short)

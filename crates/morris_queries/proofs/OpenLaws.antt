@@ -1,4 +1,4 @@
--- What is opened for a pair, and what open files tell, where the files of the folder are known.
+-- What is opened for a pair, and what open files say, where the files of the folder are known.
 use Rattle.std.proofs.Common.{◌≡◌, ◌≢◌, ℕ, Bool, true, false, eqb, List, [], Option, Some, None, is_some, Result, Ok, Err, refl, sym, ap, ap₂, subst, ◌∙◌, inl, inr}
 use Rattle.std.specs.Prelude.{IfErr, option_map, unwrap_or, if◌then◌else◌}
 use Rattle.std.specs.Option.{option_and_then}
@@ -88,7 +88,7 @@ module _ (board : Shape) (name : List ℕ) where
   unfolding table_in
   table_bytes files c file e = bytes_there c (files (name_of name c)) file e
 
-  -- what the open files say of a position, where that of its pair is open, is what the folder tells
+  -- what the open files say of a position, where that of its pair is open, is what the folder says
   pub said_reported : (files : Files) (opened : OpenFiles) (s : Sides) → ((c : Counts) (file : OpenFile) → file_for opened c ≡ Some file → table_in board name files c ≡ Ok file)
       → missing_file opened s ≡ None → (value : Value) × (said_of board opened s ≡ Some value) × (reported_value board name files s ≡ Ok value)
   unfolding reported_value
@@ -115,7 +115,7 @@ module _ (board : Shape) (name : List ℕ) where
       at_pair None e = (Lost 0, refl, refl)
       at_pair (Some c) e = with_file c (file_for opened c) refl e
 
-  -- the value that the open files say is the one that the folder tells
+  -- the value that the open files say is the one that the folder says
   pub reported_ok : (F : Type 0) (files : Files) (opened : OpenFiles) (s : Sides) (value : Value)
       → ((c : Counts) (file : OpenFile) → file_for opened c ≡ Some file → table_in board name files c ≡ Ok file) → missing_file opened s ≡ None
       → ((v : Value) → said_of board opened s ≡ Some v → ◌≡◌ {A = Result Value F} (Ok value) (Ok v)) → reported_value board name files s ≡ Ok value

@@ -1,4 +1,4 @@
--- How the steps of an answer follow one another.
+-- How the parts of an answer follow one another.
 use Rattle.std.proofs.Common.{◌≡◌, ℕ, suc, ◌≤◌, Bool, true, false, filter, List, [], ◌∷◌, ◌++◌, map, length, Option, Some, None, Result, Ok, Err, refl, sym, ap, ap₂, subst, ◌∙◌, inl, inr, arith, append_assoc, append-nil}
 use Rattle.std.specs.List.{Contains}
 use Rattle.std.specs.Prelude.{IfSome, slice_get}
@@ -96,7 +96,7 @@ pub steps_more : (outcomes pushed : List Outcome) (seen : List Move) (m : Move) 
 steps_more outcomes pushed seen m value so_far one =
     ap (map (λ (o : Outcome). o.step)) one ∙ map-append (λ (o : Outcome). o.step) outcomes (outcome m value ∷ []) ∙ ap (λ ms. ms ++ m ∷ []) so_far
 
--- ---- what is told of a position
+-- ---- the report of a position
 
 pub from_same : (value : Value) (os : List Outcome) → same_value value (value_from os) ≡ true → reported_from value os ≡ Ok (position_report value (best_among value os) os [])
 unfolding reported_from
@@ -106,7 +106,7 @@ pub from_other : (value : Value) (os : List Outcome) → same_value value (value
 unfolding reported_from
 from_other value os other = rw other refl
 
--- what is told says the same
+-- the report says the same
 pub from_reported : (value : Value) (os : List Outcome) (t : PositionReport) → reported_from value os ≡ Ok t → position_report value (best_among value os) os [] ≡ t
 from_reported value os t e = elim (cases_Bool (same_value value (value_from os))) [
   | inl same ↦ let is = sym (from_same value os same) ∙ e in cc

@@ -1,4 +1,4 @@
--- What is answered to texts, and what of the answers went out.
+-- What is answered to position strings, and what of the answers went out.
 use Rattle.std.specs.Prelude.{◌≡◌, ◌≢◌, ℕ, ◌+◌, ◌-◌, ◌^◌, ◌<◌, min, Bool, List, [], ◌∷◌, ◌++◌, map, take, length, is_err, Option, Some, None, Result, Ok, Err, IfOk, if◌then◌else◌}
 use Rattle.std.specs.List.{flat_map, Contains}
 use Rattle.std.specs.Io.KnownBytes.{Appends, Keeps}
@@ -16,7 +16,7 @@ use Rattle.morris_queries.specs.Reports.{PositionReport, Agrees, IsListed, repor
 use Rattle.morris_queries.specs.Exactness.{AreExactIn, IsGame}
 use Rattle.morris_queries.specs.Printing.{answer_string, head_text}
 
--- an answer to a text: what is told of its position, or a fault
+-- an answer to a string: the report of its position, or a fault
 abbrev pub Answer : Type 0
 Answer = Result PositionReport Fault
 
@@ -26,9 +26,9 @@ abbrev pub IsExactAnswer : Shape → Show → Sides → Answer → Type 0
 IsExactAnswer board show s (Ok t) = IsGame board show s t
 IsExactAnswer board show s (Err refused) = refused ≢ fault.Disagree
 
--- The answer to a text, on the board of this name. A text that is no position's is answered by its
--- own fault. Where the files are known, the answer is what they tell, unless memory ran out; and
--- where those that are asked for are those of exact tables, it is the game's.
+-- The answer to a string, on the board of this name. A text that isn't a position string is
+-- answered by its own fault. Where the files are known, the answer is what they say, unless memory
+-- ran out; and where those that are asked for are those of exact tables, it is the game's.
 pub record IsAnswer (board : Shape) (name : List ℕ) (known : Option Files) (show : Show) (text : List ℕ) (answer : Answer) : Type 0 where
   pub refused : (fault : TextFault) → read_of board text ≡ Err fault → answer ≡ Err (text_fault fault)
   pub listed : (s : Sides) → read_of board text ≡ Ok s → IfOk answer (IsListed board s)
@@ -49,18 +49,18 @@ abbrev pub GoesOut : Option (List ℕ) → Option (List ℕ) → List ℕ → Bo
 GoesOut old new whole refused (Ok done) = Appends old new whole × (done.sent ≡ length whole) × (done.is_refused ≡ refused)
 GoesOut old new whole refused (Err sent) = WentIn old new whole sent
 
--- what the call for one text answers
+-- what the call for one string answers
 abbrev pub AnswersString : Shape → List ℕ → Option Files → Show → List ℕ → Option (List ℕ) → Option (List ℕ) → Result Answered ℕ → Type 0
 AnswersString board name known show text old new result =
     (answer : Answer) × IsAnswer board name known show text answer × GoesOut old new (answer_string board show text answer) (is_err answer) result
 
--- ---- many texts
+-- ---- many strings
 
--- texts and their answers, in order
+-- strings and their answers, in order
 abbrev pub Given : Type 0
 Given = List (List ℕ × Answer)
 
--- these texts were answered, each with its answer
+-- these strings were answered, each with its answer
 pub record AreGiven (board : Shape) (name : List ℕ) (known : Option Files) (show : Show) (strings : List (List ℕ)) (given : Given) : Type 0 where
   pub listed : map (λ (g : List ℕ × Answer). g.0) given ≡ strings
   pub each : (g : List ℕ × Answer) → Contains given g → IsAnswer board name known show g.0 g.1
@@ -74,7 +74,7 @@ abbrev pub count_refused : Given → ℕ
 count_refused [] = 0
 count_refused (g ∷ given) = (if is_err g.1 then 1 else 0) + count_refused given
 
--- all answers to these texts went out, and were counted
+-- all answers to these strings went out, and were counted
 pub record AreOut (board : Shape) (name : List ℕ) (known : Option Files) (show : Show) (strings : List (List ℕ)) (old new : Option (List ℕ)) (tally : Tally) : Type 0 where
   pub given : Given
   pub are : AreGiven board name known show strings given
@@ -87,16 +87,16 @@ abbrev pub Begins : Show → Option (List ℕ) → Option (List ℕ) → Result 
 Begins show old new (Ok tally) = Appends old new (head_text show) × (tally.sent ≡ length (head_text show)) × (tally.refused ≡ 0)
 Begins show old new (Err sent) = WentIn old new (head_text show) sent
 
--- What is counted after the next text: the bytes that went out, and whether it was a fault; or the
--- bytes that went out until a write failed.
+-- What is counted after the next string: the bytes that went out, and whether it was a fault; or
+-- the bytes that went out until a write failed.
 abbrev pub IsTallied : Tally → Tally → Result Answered ℕ → Result (Unit {0}) Fault → Type 0
 IsTallied old new (Ok done) result =
     (result ≡ Ok tt) × (new.sent ≡ count_up_to (old.sent + done.sent))
     × (new.refused ≡ count_up_to (old.refused + (if done.is_refused then 1 else 0)))
 IsTallied old new (Err sent) result = result ≡ Err (fault.Write (count_up_to (old.sent + sent)))
 
--- What the call for a list of texts answers: how many were answered by a fault, where all answers
--- went out; a write that failed, of the answers to the first texts; or, before anything went out,
+-- What the call for a list of strings answers: how many were answered by a fault, where all answers
+-- went out; a write that failed, of the answers to the first strings; or, before anything went out,
 -- that there is no such folder, where its files aren't known, or want of memory.
 abbrev pub AnswersStrings : Shape → List ℕ → Option Files → Show → List (List ℕ) → Option (List ℕ) → Option (List ℕ) → Result ℕ Fault → Type 0
 AnswersStrings board name known show strings old new (Ok refused) =

@@ -60,7 +60,7 @@ AnswersFrom board name known pair question old new result =
     ⊎ ((file : OpenFile) × (file.pair ≡ pair) × ((files : Files) → known ≡ Some files → table_in board name files pair ≡ Ok file)
     × AnswersFile board file question old new result × (IsExactFile board file → IsGameAnswer board file question old new result))))
 
--- what `stats --from` answers on a board, of the pair that a text names; and on the board of a name
+-- what `stats --from` answers on a board, of the pair of a name; and on the board of a name
 abbrev pub CountsOn : {T : Type 0} → Shape → List ℕ → Option Files → List ℕ → Bool → Option (List ℕ) → Option (List ℕ) → Result T Fault → Type 0
 CountsOn board name known text csv old new result =
     OnRead (λ refused. refused) (read_pair_of board.points text) result (Keeps old new) (λ pair. AnswersFrom board name known pair (Counting csv) old new result)
@@ -69,7 +69,7 @@ abbrev pub AnswersCountsFrom : {T : Type 0} → Option Shape → List ℕ → Op
 AnswersCountsFrom named name known text csv old new result =
     OnBoard named result (Keeps old new) (λ board. CountsOn board name known text csv old new result)
 
--- what `find` answers on a board, of the pair and the value that texts name; and on the board of a
+-- what `find` answers on a board, of the pair and the value of two names; and on the board of a
 -- name
 abbrev pub FindsOn : {T : Type 0} → Shape → List ℕ → Option Files → List ℕ → List ℕ → Bool → Shown → Option (List ℕ) → Option (List ℕ) → Result T Fault → Type 0
 FindsOn board name known text value all shown old new result =

@@ -1,5 +1,5 @@
--- What is told where the files of a folder are those of exact tables: the game's own values, best
--- moves and lines of play.
+-- What is reported where the files of a folder are those of exact tables: the game's own values,
+-- best moves and lines of play.
 use Rattle.std.specs.Prelude.{◌≡◌, ℕ, zero, suc, List, [], ◌∷◌, Some, IfSome}
 use Rattle.std.specs.List.{Contains}
 use Rattle.morris_board.specs.Boards.{Shape}
@@ -26,7 +26,7 @@ use Rattle.morris_queries.specs.Reports.{Played, PositionReport}
 abbrev pub IsExactBytes : Shape → Counts → List ℕ → Type 0
 IsExactBytes board c bytes = (t : Table) × IsTable board t × (t.pair ≡ c) × (bytes ≡ file_of board t)
 
--- so it is where the value of a position is told, if something stands there
+-- so it is where the value of a position is stated, if something stands there
 abbrev pub IsExactAt : Shape → List ℕ → Files → Sides → Type 0
 IsExactAt board name files s = IfSome (pair_of s) (λ c. IfSome (files (name_of name c)) (IsExactBytes board c))
 
@@ -35,7 +35,7 @@ pub record AreExactNear (board : Shape) (name : List ℕ) (files : Files) (s : S
   pub here : IsExactAt board name files s
   pub next : (m : Move) → Contains (moves_of board s) m → IsExactAt board name files (result_of s m)
 
--- and so on at each position to which at most so many plies lead
+-- and so on at each position that at most so many plies lead to
 abbrev pub AreExactWithin : Shape → List ℕ → Files → ℕ → Sides → Type 0
 AreExactWithin board name files zero s = AreExactNear board name files s
 AreExactWithin board name files (suc plies) s =
@@ -43,18 +43,18 @@ AreExactWithin board name files (suc plies) s =
 
 -- The files that are asked for where this is shown of a position are those of exact tables: that of
 -- the position and those of the positions after its moves; and for a line, those of all positions
--- to which play may lead from it.
+-- that play may lead to from it.
 abbrev pub AreExactIn : Shape → List ℕ → Files → Show → Sides → Type 0
 AreExactIn board name files show.Line s = (plies : ℕ) → AreExactWithin board name files plies s
 AreExactIn board name files _ s = AreExactNear board name files s
 
--- a move leads to this value: that of the position after it, turned round
+-- a move leads to this value: that of the position after it, for the player who moves
 abbrev pub LeadsTo : Shape → Sides → Outcome → Type 0
 LeadsTo board s o = (next : Value) × IsValue board (result_of s o.step) next × (o.value ≡ value_for_mover next)
 
--- A line of best play from a position of this value: each move is a best one, the value falls by
--- one ply with each, the one that is told of the position after it is its own, and the line ends at
--- depth 0.
+-- A line of best play from a position of this value: each move is a best one, the depth goes down
+-- by one ply with each, the value that is reported of the position after it is its own, and the
+-- line ends at depth 0.
 abbrev pub IsBestLine : Shape → Sides → Value → List Played → Type 0
 IsBestLine board s value [] = depth_of value ≡ 0
 IsBestLine board s value (ply ∷ line) =
@@ -64,7 +64,7 @@ abbrev pub HasLine : Shape → Show → Sides → PositionReport → Type 0
 HasLine board show.Line s t = IsBestLine board s t.value t.line
 HasLine board _ s t = t.line ≡ []
 
--- what is told is the game's
+-- the report is the game's
 pub record IsGame (board : Shape) (show : Show) (s : Sides) (t : PositionReport) : Type 0 where
   pub value : IsValue board s t.value
   pub best : AreBest board s t.best

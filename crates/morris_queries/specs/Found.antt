@@ -87,11 +87,11 @@ AreKinds says Deepest kinds = (tallies : List ℕ) × AreTallies says tallies ×
 
 -- ---- what is printed
 
--- the text of each position, one a line
+-- the string of each position, one a line
 unfoldable pub found_text : Shape → List Sides → List ℕ
 found_text board positions = flat_map (λ s. line (text_of board s)) positions
 
--- The texts of the positions that are found, as many of them as there may be, or of the first of
+-- The strings of the positions that are found, as many of them as there may be, or of the first of
 -- these where a write failed; or how many there are, as a line.
 abbrev pub PrintsFound : {T : Type 0} → Shape → (Sides → ℕ → Type 0) → (Kind → Sides → Type 0) → (Sides → ℕ) → Wanted → Shown → Option (List ℕ) → Option (List ℕ) → Result T Fault → Type 0
 PrintsFound board says asked entry wanted (Strings most) old new result =
@@ -101,7 +101,7 @@ PrintsFound board says asked entry wanted Count old new result =
     (kinds : Option Kind × Option Kind) × (count : ℕ) × AreKinds says wanted kinds × AreManyOfBoth asked kinds count
     × Prints old new (number_line [] count) result
 
--- some texts, or some number, were printed
+-- some strings, or some number, were printed
 abbrev pub PrintsAny : {T : Type 0} → Shape → Shown → Option (List ℕ) → Option (List ℕ) → Result T Fault → Type 0
 PrintsAny board (Strings most) old new result = (positions : List Sides) × Prints old new (found_text board positions) result
 PrintsAny board Count old new result = (count : ℕ) × Prints old new (number_line [] count) result
@@ -117,7 +117,7 @@ abbrev pub AreFirstFound : (Sides → ℕ → Type 0) → (Kind → Sides → Ty
 AreFirstFound says asked entry wanted most positions =
     (kinds : Option Kind × Option Kind) × (n : ℕ) × AreKinds says wanted kinds × (n ≤ most) × AreOfBoth asked entry n kinds positions
 
--- What was printed before a code that can't be read: nothing, or texts, and where the codes are
+-- What was printed before a code that can't be read: nothing, or strings, and where the codes are
 -- known those of the first that are found.
 abbrev pub PrintsBefore : Shape → CodedEntries → Bool → Wanted → Shown → Option (List ℕ) → Option (List ℕ) → Type 0
 PrintsBefore board entries all wanted Count old new = Keeps old new
@@ -156,8 +156,8 @@ end_of (Ok sent) (Err why) = Err fault.Read
 end_of (Ok sent) (Ok done) = Ok tt
 
 module _ {S : Type 0} (contents : S → Option (List ℕ)) (failures : S → ℕ) (board : Shape) where
-  -- The texts of the positions of an entry went in, so many of them at most, and the answer is how
-  -- many more there may be.
+  -- The strings of the positions of an entry went in, so many of them at most, and the answer is
+  -- how many more there may be.
   pub record PutsEntry (l : Layout) (c : Counts) (all : Bool) (entry most : ℕ) (old new : Printer S) (left : ℕ) : Type 0 where
     pub positions : List Sides
     pub each : (s : Sides) → Contains positions s ↔ IsOfEntry board l c all entry s
@@ -166,7 +166,7 @@ module _ {S : Type 0} (contents : S → Option (List ℕ)) (failures : S → ℕ
     pub takes : Takes contents failures old new (found_text board (take most positions))
     pub rest : left ≡ most - length positions
 
-  -- The texts of some positions went in, and the answer is how many more there may be: of those
+  -- The strings of some positions went in, and the answer is how many more there may be: of those
   -- that are found of a kind, where the codes are known.
   pub record PutsKind (entries : CodedEntries) (all : Bool) (kind : Option Kind) (most : ℕ) (old new : Printer S) (result : Result ℕ Failed) : Type 0 where
     pub positions : List Sides

@@ -1,4 +1,4 @@
--- The lines of an input, and the texts that they write.
+-- The lines of an input, and their texts.
 use Rattle.std.specs.Prelude.{ℕ, ◌-◌, nat_eq, Bool, true, not, List, [], ◌∷◌, ◌++◌, length, map, filter, take, slice_index, if◌then◌else◌}
 
 -- The lines that end within bytes, each before a line feed (10). What was begun before the bytes
@@ -12,7 +12,7 @@ unfoldable pub begun_after : List ℕ → List ℕ → List ℕ
 begun_after begun [] = begun
 begun_after begun (b ∷ bytes) = if nat_eq b 10 then begun_after [] bytes else begun_after (begun ++ b ∷ []) bytes
 
--- the text that a line writes: all of it but a carriage return (13) at its end
+-- the text of a line: all of it but a carriage return (13) at its end
 abbrev pub text_in : List ℕ → List ℕ
 text_in line = if nat_eq (slice_index line (length line - 1)) 13 then take (length line - 1) line else line
 

@@ -11,12 +11,12 @@ use Rattle.morris_queries.specs.Answers.{AnswersStrings, AreOut}
 use Rattle.morris_queries.specs.InputLines.{begun_after, strings_ended, strings_in}
 
 -- These bytes were read: the answers to the lines that end in them went out, and the first bytes of
--- the line that is begun after those are kept.
+-- the line that is begun after those are retained.
 pub record IsReadTo (board : Shape) (name : List ℕ) (known : Option Files) (show : Show) (read : List ℕ) (old new : Option (List ℕ)) (line : List ℕ) (tally : Tally) : Type 0 where
   pub retained : line ≡ take 26 (begun_after [] read)
   pub out : AreOut board name known show (strings_ended read) old new tally
 
--- why it stops: a write failed, of the answers to the first of these texts
+-- why it stops: a write failed, of the answers to the first of these strings
 abbrev pub StopsIn : Shape → List ℕ → Option Files → Show → List (List ℕ) → Option (List ℕ) → Option (List ℕ) → Fault → Type 0
 StopsIn board name known show strings old new (fault.Write sent) = AnswersStrings board name known show strings old new (Err (fault.Write sent))
 StopsIn board name known show strings old new _ = ⊥

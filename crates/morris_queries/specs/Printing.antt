@@ -53,7 +53,7 @@ first_line points text t = shown_text points text ++ (codes " " ++ value_text t.
 unfoldable pub outcome_line : Outcome → List ℕ
 outcome_line o = codes "  " ++ move_text o.step ++ (codes " " ++ value_text o.value) ++ (10 ∷ [])
 
--- two blanks, a move, the text of the position after it, and its value
+-- two blanks, a move, the string of the position after it, and its value
 unfoldable pub ply_line : Shape → Played → List ℕ
 ply_line board ply = codes "  " ++ move_text ply.step ++ (codes " " ++ text_of board ply.after) ++ (codes " " ++ value_text ply.value) ++ (10 ∷ [])
 
@@ -72,19 +72,19 @@ abbrev pub head_text : Show → List ℕ
 head_text show.Csv = codes "text,move,result,depth\n"
 head_text _ = []
 
--- what is told of a position, with the text that was asked about
+-- the report of a position, with the text that was asked about
 unfoldable pub reported_text : Shape → Show → List ℕ → PositionReport → List ℕ
 reported_text board show.Best text t = first_line board.points text t
 reported_text board show.Moves text t = first_line board.points text t ++ flat_map outcome_line t.outcomes
 reported_text board show.Line text t = first_line board.points text t ++ flat_map (ply_line board) t.line
 reported_text board show.Csv text t = flat_map (csv_line board.points text) t.outcomes
 
--- the answer to a text: what is told of the position, or the line of the fault after the text
+-- the answer to a text: the report of its position, or the line of the fault after the text
 abbrev pub answer_string : Shape → Show → List ℕ → Result PositionReport Fault → List ℕ
 answer_string board show text (Ok t) = reported_text board show text t
 answer_string board show text (Err refused) = shown_text board.points text ++ codes ": " ++ fault_line refused
 
--- what is told is little enough to be counted while it is printed
+-- the report is short enough to be counted while it is printed
 pub record IsShort (t : PositionReport) : Type 0 where
   pub best : length t.best ≤ 9 * 24 * 9
   pub outcomes : length t.outcomes ≤ 9 * 24 * 9

@@ -1,4 +1,4 @@
--- What the files of a folder tell of positions.
+-- What the files of a folder say of positions.
 use Rattle.std.specs.Prelude.{◌≡◌, ◌⊎◌, ℕ, zero, suc, min, max, Bool, ◌&&◌, nat_eq, List, [], ◌∷◌, map, fold, slice_get, Option, Some, None, unwrap_or, Result, Ok, Err, if◌then◌else◌}
 use Rattle.morris_board.specs.Boards.{Shape}
 use Rattle.morris_board.specs.Positions.{Sides, read_of}
@@ -24,9 +24,9 @@ use Rattle.morris_jobs.specs.Faults.{text_fault, needs_fault, read_fault}
 use Rattle.morris_queries.specs.declared.show.Show.{Show}
 use Rattle.morris_queries.specs.declared.show.Show.TheVariants as show
 
--- ---- the steps of an answer
+-- ---- the parts of an answer
 
--- what comes after a step that may have been refused
+-- what comes after a result that may be a refusal
 abbrev pub then_step : {A B : Type 0} → Result A Fault → (A → Result B Fault) → Result B Fault
 then_step (Ok found) next = next found
 then_step (Err refused) next = Err refused
@@ -90,8 +90,8 @@ pub record Played : Type 0 where
 abbrev pub played : Move → Sides → Value → Played
 played m s value = record { step = m; after = s; value = value }
 
--- what is told of a position: its value, its best moves, what each legal move leads to, and a line
--- of play
+-- the report of a position: its value, its best moves, what each legal move leads to, and a line of
+-- play
 pub record PositionReport : Type 0 where
   pub value : Value
   pub best : List Move
@@ -101,8 +101,8 @@ pub record PositionReport : Type 0 where
 abbrev pub position_report : Value → List Move → List Outcome → List Played → PositionReport
 position_report value best outcomes line = record { value = value; best = best; outcomes = outcomes; line = line }
 
--- What is told of a position that its files agree on: this value, if it is the one that follows
--- from what the moves lead to. Else the files of the position and its moves disagree.
+-- The report of a position that its files agree on: this value, if it is the one that follows from
+-- what the moves lead to. Else the files of the position and its moves disagree.
 unfoldable pub reported_from : Value → List Outcome → Result PositionReport Fault
 reported_from value outcomes =
     if same_value value (value_from outcomes) then Ok (position_report value (best_among value outcomes) outcomes []) else Err fault.Disagree
@@ -119,7 +119,7 @@ abbrev pub with_first : {A B : Type 0} → Option A → B → (A → B) → B
 with_first None other next = other
 with_first (Some first) other next = next first
 
--- ---- what the files of this folder tell, those of this board by its name
+-- ---- what the files of this folder say, those of this board by its name
 
 module _ (board : Shape) (name : List ℕ) (files : Files) where
   -- the file of a pair
@@ -135,7 +135,7 @@ module _ (board : Shape) (name : List ℕ) (files : Files) where
   unfoldable pub reported_value : Sides → Result Value Fault
   reported_value s = value_at s (pair_of s)
 
-  -- what a move leads to: the value of its result, turned round
+  -- what a move leads to: the value of its result, for the player who moves
   abbrev pub reported_outcome : Sides → Move → Result Outcome Fault
   reported_outcome s m = then_step (reported_value (result_of s m)) (λ value. Ok (outcome m (value_for_mover value)))
 
@@ -166,7 +166,7 @@ module _ (board : Shape) (name : List ℕ) (files : Files) where
   reported_shown show s = then_step (reported_of s) (λ t.
       then_step (shown_line show t s) (λ line. Ok (position_report t.value t.best t.outcomes line)))
 
-  -- the answer to a text
+  -- the answer to a position string
   abbrev pub reported_to : Show → Result Sides TextFault → Result PositionReport Fault
   reported_to show (Err refused) = Err (text_fault refused)
   reported_to show (Ok s) = reported_shown show s

@@ -1,4 +1,4 @@
--- The values by which positions are asked for, and the texts that name them.
+-- The values by which positions are looked for, and their names.
 use Rattle.std.specs.Prelude.{◌≡◌, ℕ, ◌+◌, ◌%◌, ◌^◌, ◌<◌, Bool, true, false, nat_eq, List, ◌++◌, slice_index, codes, Option, Some, None, option_map, Result, Ok, Err}
 use Rattle.std.specs.Str.Parse.{IsNumeral, digits_value, without_leading_plus}
 use Rattle.morris_pairs.specs.declared.value.Value.{Value}
@@ -23,7 +23,7 @@ is_of_kind _ _ = false
 abbrev pub WritesNumber : List ℕ → ℕ → Type 0
 WritesNumber text n = IsNumeral 10 (without_leading_plus text) × (digits_value 10 (without_leading_plus text) ≡ n) × (n < 2 ^ 16)
 
--- the text that asks for this: `draw`, `won`, `lost`, `won in D`, `lost in D` or `deepest`
+-- the name of this: `draw`, `won`, `lost`, `won in D`, `lost in D` or `deepest`
 abbrev pub IsTextOf : Wanted → List ℕ → Type 0
 IsTextOf (Every Draw) text = text ≡ codes "draw"
 IsTextOf (Every Won) text = text ≡ codes "won"
@@ -32,13 +32,13 @@ IsTextOf (Every (WonIn plies)) text = (digits : List ℕ) × (text ≡ codes "wo
 IsTextOf (Every (LostIn plies)) text = (digits : List ℕ) × (text ≡ codes "lost in " ++ digits) × WritesNumber digits plies
 IsTextOf Deepest text = text ≡ codes "deepest"
 
--- what reading a text gives: what it asks for; or the fault of a text that asks for nothing
+-- what reading a text gives: the values that it names; or the fault of a text that names none
 abbrev pub ReadsWanted : List ℕ → Result Wanted Fault → Type 0
 ReadsWanted text (Ok wanted) = IsTextOf wanted text
 ReadsWanted text (Err refused) = (refused ≡ fault.ValueText) × ((wanted : Wanted) → ¬ IsTextOf wanted text)
 
--- Of the codes that some position has and that leave this rest when divided by 2 (0 are those of
--- wins, 1 those of losses), the greatest is this depth and one more; there is none where no
+-- Of the codes that some position has and that leave this remainder when divided by 2 (0 are those
+-- of wins, 1 those of losses), the greatest is this depth and one more; there is none where no
 -- position has one.
 abbrev pub IsGreatestDepth : List ℕ → ℕ → Option ℕ → Type 0
 IsGreatestDepth tallies rest None = (code : ℕ) → 0 < code → code % 2 ≡ rest → slice_index tallies code ≡ 0

@@ -1,4 +1,4 @@
-//! The answer to one text.
+//! The answer to one position string.
 ghost use Rattle.std.specs.Prelude.{◌-◌, ◌^◌, ◌<◌, ℕ, List, Option, IfOk};
 ghost use Rattle.morris_board.specs.Streams.{CountsFailure};
 ghost use Rattle.morris_files.specs.Files.{Files};
@@ -26,10 +26,10 @@ pub struct Answered {
     pub is_refused: bool,
 }
 
-/// What is told of the position that a text writes.
+/// The report of the position of a position string.
 ///
 /// # Errors
-/// The fault of a text that is no position's; then those of [`Folder::report`].
+/// The fault of a text that isn't a position string; then those of [`Folder::report`].
 #[tactic(auto, using(crate::proofs::FolderLaws::stays_laws))]
 fn answer<B: Geometry, L: Library>(
     folder: &mut Folder<'_, '_, '_, B, L>,
@@ -46,11 +46,11 @@ fn answer<B: Geometry, L: Library>(
     folder.report(&position, show)
 }
 
-/// Answers one text from the files of a folder, and sends the answer. With `Show::Best` it is one
-/// line: the text, the value of its position, and the best moves. What is shown besides stands
-/// below it, lines of fields in its place. A text that is no position's, or whose files aren't
-/// there or can't be read, is answered by the line of the fault after the text. Files that it needs
-/// are opened, and stay open.
+/// Answers one position string from the files of a folder, and sends the answer. With `Show::Best`
+/// it is one line: the string, the value of its position, and the best moves. What else is shown
+/// stands below that line; lines of fields take its place. A text that isn't a position string, or
+/// whose files aren't there or can't be read, is answered by the line of the fault after the text.
+/// Files that are needed are opened, and stay open.
 ///
 /// # Errors
 /// How many bytes went out until a write failed.

@@ -28,16 +28,17 @@ use std::alloc::Global;
 /// What is asked of the file of a pair.
 #[derive(Clone, Copy, Debug, PartialEq, Eq)]
 pub enum Question {
-    /// How many positions have each value: as lines of text, or, where this is true, as lines of
-    /// fields with commas between them.
+    /// How many positions have each value: as lines of plain text, or, where this is true, as lines
+    /// of fields with commas between them.
     Counts(bool),
     /// Which positions have a value.
     Positions(Search),
 }
 
 /// Prints how many positions of a pair have each value, as the file of the pair in a library states
-/// the values: what `stats` prints, where the file is that of an exact table. `pair` is its text,
-/// on the board named `board`; with `csv` lines of fields are printed. The file is read once.
+/// the values: what `stats` prints, where the file is that of an exact table. `pair` is the name of
+/// the pair, such as `4-3`, on the board named `board`; with `csv` lines of fields are printed. The
+/// file is read once.
 ///
 /// # Errors
 /// [`Fault::Board`] where there is no such board, else [`Fault::PairText`], [`Fault::Counts`] or
@@ -83,16 +84,16 @@ fn count_on<B: Geometry, L: Library, O: Sink>(
     ask(alloc, board, pair, Question::Counts(csv), library, output)
 }
 
-/// Prints the positions of a pair that have the value of a text, as the file of the pair in a
-/// library states the values; where the file is that of an exact table, their values in the game.
-/// They stand in the order of their entries, one a line, as `lookup` takes them. Where `all` is
-/// false, each entry gives the position that has it for its own. The texts go out as the file is
-/// read.
+/// Prints the positions of a pair that have a value, as the file of the pair in a library states
+/// the values; where the file is that of an exact table, their values in the game. `value` names
+/// the value, as `won in 3`. The positions stand in the order of their entries, one position string
+/// a line, as `lookup` takes them. Where `all` is false, only the canonical form of each entry's
+/// orbit is printed. The lines go out as the file is read.
 ///
 /// # Errors
-/// Those of [`stats_from`], with [`Fault::ValueText`] after those of the pair where the text of the
-/// value asks for nothing. Where a part of the file can't be read, the texts that were found before
-/// have gone out.
+/// Those of [`stats_from`], with [`Fault::ValueText`] after those of the pair where `value` doesn't
+/// name a value. Where a part of the file can't be read, the positions that were found before have
+/// gone out.
 pub fn find_from<L: Library, O: Sink>(
     alloc: Global,
     board: &str,

@@ -22,7 +22,7 @@ use std::alloc::Global;
 /// What is printed of the positions that are found.
 #[derive(Clone, Copy, Debug, PartialEq, Eq)]
 pub enum Shown {
-    /// Their texts, so many of them at most.
+    /// Their position strings, so many of them at most.
     Strings(u64),
     /// How many there are.
     Count,
@@ -31,9 +31,9 @@ pub enum Shown {
 /// Which positions are looked for, and what is printed of them.
 #[derive(Clone, Copy, Debug, PartialEq, Eq)]
 pub struct Search {
-    /// Those that are asked for.
+    /// The values that are looked for.
     pub wanted: Wanted,
-    /// All that have an entry, and not only the one that has it for its own.
+    /// Whether every position of an entry's orbit is found, and not only its canonical form.
     pub all: bool,
     /// What is printed.
     pub shown: Shown,
@@ -42,12 +42,13 @@ pub struct Search {
 /// The kinds of values that are looked for, one after the other.
 type Kinds = (Option<Kind>, Option<Kind>);
 
-/// Finds positions of the pair of these entries, and prints what is asked of them: their texts, one
-/// a line, in the order of their entries, each as soon as its code is read; or how many there are.
+/// Finds positions of the pair of these entries, and prints what is asked for: their position
+/// strings, one a line, in the order of their entries, each as soon as its code is read; or how
+/// many there are.
 ///
 /// # Errors
 /// [`Fault::Memory`] where memory is refused, with nothing printed; [`Fault::Read`] where a code
-/// can't be read, after the texts that were found before; [`Fault::Write`], with the bytes that
+/// can't be read, after the strings that were found before; [`Fault::Write`], with the bytes that
 /// went out, at the first write that fails.
 pub(crate) fn find<B: Geometry, C: Coded, S: Sink>(
     alloc: Global,
@@ -118,7 +119,7 @@ impl Printed for Total {
     }
 }
 
-/// Prints the texts of the positions, so many of them at most.
+/// Prints the strings of the positions, so many of them at most.
 fn print_strings<B: Geometry, C: Coded, S: Sink>(
     alloc: Global,
     entries: &mut Entries<B, C>,
@@ -136,7 +137,7 @@ fn print_strings<B: Geometry, C: Coded, S: Sink>(
     end_of(out.finish(), read)
 }
 
-/// What is answered by what went out and by whether all codes were read.
+/// The answer, by what went out and by whether all codes were read.
 fn end_of(sent: Result<u64, u64>, read: Result<(), Failed>) -> Result<(), Fault>
     ensures { result ≡ end_of sent read }
 {
@@ -170,7 +171,8 @@ fn kinds_of<B: Geometry, C: Coded>(
     }
 }
 
-/// Puts the texts of the positions of both kinds in, one kind after the other, so many at most.
+/// Puts the strings of the positions of both kinds into `out`, one kind after the other, so many at
+/// most.
 fn put_kinds<B: Geometry, C: Coded, S: Sink>(
     entries: &mut Entries<B, C>,
     kinds: Kinds,
@@ -186,8 +188,8 @@ fn put_kinds<B: Geometry, C: Coded, S: Sink>(
     Ok(())
 }
 
-/// Puts the texts of the positions of a kind in, so many at most, and answers how many more there
-/// may be. No code is read any more after a write that failed.
+/// Puts the strings of the positions of a kind into `out`, so many at most, and answers how many
+/// more there may be. No code is read any more after a write that failed.
 fn put_kind<B: Geometry, C: Coded, S: Sink>(
     entries: &mut Entries<B, C>,
     kind: Option<Kind>,
@@ -216,8 +218,8 @@ fn put_kind<B: Geometry, C: Coded, S: Sink>(
     Ok(left)
 }
 
-/// Puts the texts of the positions of an entry in, so many at most, and answers how many more there
-/// may be.
+/// Puts the strings of the positions of an entry into `out`, so many at most, and answers how many
+/// more there may be.
 fn put_entry<B: Geometry, C: Coded, S: Sink>(
     entries: &Entries<B, C>,
     entry: u64,
@@ -240,8 +242,8 @@ fn put_entry<B: Geometry, C: Coded, S: Sink>(
     }
 }
 
-/// Puts the texts of the positions that have an entry in, so many at most, and answers how many
-/// more there may be.
+/// Puts the strings of an entry's orbit into `out`, so many at most, and answers how many more
+/// there may be.
 fn put_orbit<B: Geometry, S: Sink>(
     orbit: FallsOn<'_, B>,
     most: u64,

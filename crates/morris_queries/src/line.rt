@@ -1,14 +1,14 @@
-//! One line of an input: its first bytes while it is read, and the text that it writes.
+//! One line of an input: its first bytes while it is read, and its text.
 ghost use Rattle.std.specs.Prelude.{◌≡◌, ℕ, [], ◌∷◌, ◌++◌, List, take};
 ghost use Rattle.morris_queries.specs.InputLines.{is_passed_over, text_in};
 
 use arrayvec::ArrayVec;
 
-/// How many bytes of a line are kept: the longest text of a position, a carriage return after it,
-/// and one more, by which a line that is too long is known.
+/// How many bytes of a line are retained: the longest position string, a carriage return after it,
+/// and one more, which shows that a line is too long.
 pub(crate) const RETAINED: usize = 26;
 
-/// Takes in the next byte of a line. One past those that are kept is passed over.
+/// Takes in the next byte of a line, and drops it where all bytes that are retained are there.
 pub(crate) fn take_in(line: &mut ArrayVec<u8, RETAINED>, byte: u8)
     ensures { (begun : List ℕ) → line.old.items ≡ take 26 begun → line.new.items ≡ take 26 (begun ++ byte ∷ []) }
 {
@@ -17,7 +17,7 @@ pub(crate) fn take_in(line: &mut ArrayVec<u8, RETAINED>, byte: u8)
     }
 }
 
-/// The text that a line writes: all of it but a carriage return at its end.
+/// The text of a line: all of it but a carriage return at its end.
 pub(crate) fn text_of(line: &[u8]) -> &[u8]
     ensures { result.now ≡ text_in line.now }
 {

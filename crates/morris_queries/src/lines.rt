@@ -39,7 +39,7 @@ struct Reading<'n, 'l, 't, 'o, B: Geometry, L: Library, O> {
 
 #[tactic(auto, using(crate::proofs::ReadingLaws::reading_laws))]
 impl<'n, 'l, 't, 'o, B: Geometry, L: Library, O: Sink> Reading<'n, 'l, 't, 'o, B, L, O> {
-    /// Nothing is read yet; what stands before all answers went out.
+    /// A reading of which nothing is read yet; what stands before all answers went out.
     fn new(
         folder: Folder<'n, 'l, 't, B, L>,
         show: Show,
@@ -62,8 +62,8 @@ impl<'n, 'l, 't, 'o, B: Geometry, L: Library, O: Sink> Reading<'n, 'l, 't, 'o, B
         }
     }
 
-    /// Takes in the next byte: at a line feed the line before it is answered, unless it is passed
-    /// over.
+    /// Takes in the next byte: at a line feed, the line that it ends is answered, unless it is
+    /// passed over.
     ///
     /// # Errors
     /// [`Fault::Write`], with the bytes that went out, where a write failed.
@@ -151,8 +151,8 @@ impl<'n, 'l, 't, 'o, B: Geometry, L: Library, O: Sink> Reading<'n, 'l, 't, 'o, B
 /// over: there is no answer to it, and nothing is counted.
 ///
 /// What has come is read, up to 4 KiB at a time, and the answers to all lines that end there have
-/// gone out before more is read: who asks through a pipe gets the answer without having to send
-/// more. Of a line 26 bytes are kept, however long it is.
+/// gone out before more is read: a caller that asks through a pipe gets each answer without having
+/// to send more. Only 26 bytes of a line are in memory, however long it is.
 ///
 /// # Errors
 /// [`Fault::NoFolder`] where the place of the files isn't there, and then

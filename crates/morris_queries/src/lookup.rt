@@ -1,4 +1,4 @@
-//! The command `lookup`, for a list of texts and for the lines of an input.
+//! The command `lookup`, for a list of position strings and for the lines of an input.
 ghost use Rattle.std.specs.Prelude.{◌≡◌, ◌-◌, ◌^◌, ◌<◌, Err, map};
 ghost use Rattle.morris_jobs.specs.BoardNames.{board_of};
 ghost use Rattle.morris_jobs.specs.Faults.{CountsWrites};
@@ -14,10 +14,10 @@ use morris_jobs::fault::Fault;
 use morris_jobs::on_board;
 use std::alloc::Global;
 
-/// Answers texts of positions on the board named `board`, each in turn, from the table files of a
+/// Answers position strings on the board named `board`, each in turn, from the table files of a
 /// library, and counts those that are answered by a fault. What an answer is,
-/// [`answer_string`](crate::answer::answer_text) says. A file is opened when a position first needs
-/// it, and stays open.
+/// [`answer_string`](crate::answer::answer_string) says. A file is opened when a position first
+/// needs it, and stays open.
 ///
 /// # Errors
 /// [`Fault::Board`] where there is no such board; then [`Fault::NoFolder`] where the

@@ -1,4 +1,4 @@
-//! Files of the system of which the pages that were read last are kept.
+//! Files of the system with a cache of the pages that were read last.
 ghost use Rattle.std.specs.Prelude.{◌≡◌, ◌/◌, ◌%◌, ◌<◌, length, take, drop, None, IfOk, IsTrue};
 
 use morris_board::streams::Failed;
@@ -8,12 +8,12 @@ use std::cell::RefCell;
 use std::fs::File;
 use std::os::unix::fs::FileExt;
 
-/// How many bytes a page has, and how many pages of a file are kept.
+/// How many bytes a page has, and how many pages of a file are cached.
 const PAGE: u64 = 4096;
 
 const CACHED_PAGES: u64 = 16;
 
-/// A file of which the pages that were read last are kept. The positions after the moves of one
+/// A file with a cache of the pages that were read last. The positions after the moves of one
 /// position have their entries near one another, so that most of them need no call of the system.
 #[derive(Drop)]
 pub struct PagedFile {
@@ -32,7 +32,7 @@ struct Page {
 }
 
 impl PagedFile {
-    /// The file, of which no page was read.
+    /// The file, with an empty cache.
     ///
     /// # Errors
     /// [`AllocError`] where memory runs out. No other call takes memory.
@@ -68,7 +68,8 @@ impl Storage for PagedFile {
 
     fn read_at(&self, place: u64, out: &mut [u8]) -> Result<(), Failed> {
         if let Ok(mut pages) = self.pages.try_borrow_mut() {
-            // Pages whose numbers differ by a multiple of `CACHED_PAGES` have one place in turn.
+            // Pages whose numbers differ by a multiple of `CACHED_PAGES` share one place in the
+            // cache.
             if let Some(page) = (*pages).get_mut((place / PAGE % CACHED_PAGES) as usize) {
                 if page.read(&self.file, place, out) {
                     return Ok(());

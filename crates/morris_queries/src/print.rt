@@ -1,4 +1,4 @@
-//! What is printed of an answer, piece by piece.
+//! What is printed of an answer.
 ghost use Rattle.std.specs.Prelude.{ℕ, ◌∷◌, ◌++◌, [], List, codes};
 ghost use Rattle.std.specs.List.{flat_map};
 ghost use Rattle.hex.specs.Hex.{encode_lower};
@@ -32,10 +32,10 @@ fn put_value<S: Sink>(out: &mut Printer<'_, S>, value: Value)
 
 /// What is printed in a list.
 trait Listed {
-    // What stands there of it.
+    // What stands there for it.
     ghost text: { Self → List ℕ };
 
-    /// Puts that in.
+    /// Puts that into `out`.
     fn put_listed<S: Sink>(&self, out: &mut Printer<'_, S>)
         ensures { Takes S.contents S.failures out.old out.new (text self.now) };
 }
@@ -130,8 +130,8 @@ fn put_best<S: Sink>(out: &mut Printer<'_, S>, best: &[Move])
     put_list(out, best);
 }
 
-/// The text that was asked about, of which no byte goes out that isn't a printable character. Of
-/// one that is too long the first bytes stand there, and that it is too long.
+/// The text that was asked about, without any byte that isn't a printable character. Of one that is
+/// too long the first bytes stand there, and that it is too long.
 #[tactic(auto, using(morris_board::proofs::PrinterLaws::takes_laws))]
 fn put_shown<S: Sink>(out: &mut Printer<'_, S>, points: u8, text: &[u8])
     ensures { Takes S.contents S.failures out.old out.new (shown_text points text.now) }
@@ -186,14 +186,14 @@ fn put_csv<S: Sink>(out: &mut Printer<'_, S>, points: u8, text: &[u8], outcomes:
     }
 }
 
-/// What is told of a position, with the text that was asked about.
+/// The report of a position, with the text that was asked about.
 #[derive(Drop)]
 pub(crate) struct ReportLines<'a, B: Geometry> {
     /// The text.
     pub(crate) text: &'a [u8],
     /// What is shown.
     pub(crate) show: Show,
-    /// What is told.
+    /// The report.
     pub(crate) reported: &'a Report<B>,
 }
 

@@ -1,5 +1,5 @@
-//! What is told of a position: its value, its best moves, what each legal move leads to, and the
-//! line of best play.
+//! What the files say of a position: its value, its best moves, what each legal move leads to, and
+//! the line of best play.
 ghost use Rattle.std.specs.Prelude.{◌≡◌, ◌≤◌, ◌*◌, ◌++◌, ◌∷◌, [], map, length, IfOk, IfSome, OnOk};
 ghost use Rattle.std.specs.List.{Contains};
 ghost use Rattle.morris_lookup.specs.declared.outcomes.Outcome.{Outcome};
@@ -41,7 +41,7 @@ impl<B: Geometry> Model for Ply<B> {
     ghost view = { λ ply. record { step = ply.step; after = ply.position; value = ply.value } };
 }
 
-/// What is told of a position.
+/// What the files say of a position.
 #[derive(Drop)]
 pub struct Report<B: Geometry> {
     value: Value,
@@ -113,7 +113,7 @@ impl<B: Geometry, L: Library> Folder<'_, '_, '_, B, L> {
         Ok(outcomes)
     }
 
-    /// What is told of a position, without a line of play.
+    /// The report of a position, without a line of play.
     ///
     /// # Errors
     /// Those of [`value`](Folder::value), for the position and then at the first legal move for
@@ -139,13 +139,13 @@ impl<B: Geometry, L: Library> Folder<'_, '_, '_, B, L> {
         })
     }
 
-    /// The line of play from a position by this move, over so many plies at most: the first best
-    /// move goes on from each position. It ends where there is no move. Each position of it is
-    /// looked at, the last one too.
+    /// The line of play from a position by this move, over so many plies at most: it goes on from
+    /// each position by the first best move, and ends where there is none. Each position of it is
+    /// looked up, the last one too.
     ///
     /// # Errors
-    /// Those of [`report_best`](Folder::tell_best), at the first position of the line for which there
-    /// is one; [`Fault::Memory`].
+    /// Those of [`report_best`](Folder::report_best), at the first position of the line for which
+    /// there is one; [`Fault::Memory`].
     fn play_out(
         &mut self,
         position: &Position<B>,
@@ -172,11 +172,11 @@ impl<B: Geometry, L: Library> Folder<'_, '_, '_, B, L> {
         Ok(line)
     }
 
-    /// What is told of a position where this is to be shown.
+    /// The report of a position where this is to be shown.
     ///
     /// # Errors
-    /// Those of [`report_best`](Folder::tell_best) for the position, and then for those of the line
-    /// of play, where it is to be shown.
+    /// Those of [`report_best`](Folder::report_best) for the position, and then for those of the
+    /// line of play, where it is to be shown.
     pub(crate) fn report(&mut self, position: &Position<B>, show: Show) -> Result<Report<B>, Fault>
         ensures stays { Stays B.shape L.files self.old self.new }
         ensures listed { IfOk result (IsListed B.shape position.now) }
@@ -200,7 +200,7 @@ impl<B: Geometry, L: Library> Folder<'_, '_, '_, B, L> {
     }
 }
 
-/// The ply of a move to a position of which this is told.
+/// The ply of a move to a position that has this report.
 fn ply_to<B: Geometry>(position: &Position<B>, m: Move, reported: &Report<B>) -> Ply<B>
     ensures { result ≡ played m position.now reported.now.value }
 {
@@ -219,7 +219,7 @@ fn push_or_refuse<T: Drop>(list: &mut Vec<T>, next: T) -> Result<(), AllocError>
     Ok(())
 }
 
-/// The better of two values for who may choose between them.
+/// The better of two values for the player who may choose between them.
 fn better(one: Value, other: Value) -> Value
     ensures { result ≡ better one other }
 {
@@ -246,7 +246,7 @@ fn value_from(outcomes: &[Outcome]) -> Value
     outcomes.iter().fold(Value::Lost(0), |best, outcome| better(best, outcome.value))
 }
 
-/// In how many plies the game is over by a value, 0 at a draw.
+/// In how many plies the game is over by a value; 0 at a draw.
 fn depth_of(value: Value) -> u16
     ensures { result ≡ depth_of value }
 {

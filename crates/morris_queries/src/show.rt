@@ -9,7 +9,8 @@ pub enum Show {
     Moves,
     /// The line of best play to the end of the game, the first best move at each ply.
     Line,
-    /// What [`Moves`](Show::Moves) shows, in place of that first line as well: for every legal move
-    /// a line of fields with commas between them. One with their names stands before all answers.
+    /// What [`Moves`](Show::Moves) shows, and in place of that first line too: for every legal move
+    /// a line of fields with commas between them. A line with their names stands before all
+    /// answers.
     Csv,
 }

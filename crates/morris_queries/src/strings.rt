@@ -1,4 +1,4 @@
-//! The answers to a list of texts.
+//! The answers to a list of position strings.
 ghost use Rattle.std.specs.Prelude.{◌≡◌, ◌-◌, ◌^◌, ◌<◌, ℕ, List, [], Option, map};
 ghost use Rattle.morris_board.specs.Streams.{CountsFailure};
 ghost use Rattle.morris_files.specs.Files.{Files};
@@ -40,10 +40,10 @@ impl Tally {
         Ok(Tally { sent, refused: 0 })
     }
 
-    /// Takes in what came of the next text.
+    /// Takes in what came of the next string.
     ///
     /// # Errors
-    /// [`Fault::Write`] with the bytes that went out before and of this text, where a write
+    /// [`Fault::Write`] with the bytes that went out before and of this answer, where a write
     /// failed.
     pub(crate) fn take(&mut self, answered: Result<Answered, u64>) -> Result<(), Fault>
         ensures { IsTallied self.old self.new answered result }
@@ -69,8 +69,9 @@ fn head_text(show: Show) -> &'static str
     }
 }
 
-/// Answers a list of texts, one after the other, as [`answer_string`] answers each, and counts those
-/// that are answered by a fault. Files are opened when a position first needs them, and stay open.
+/// Answers a list of strings, one after the other, as [`answer_string`] answers each, and counts
+/// those that are answered by a fault. Files are opened when a position first needs them, and stay
+/// open.
 ///
 /// # Errors
 /// [`Fault::NoFolder`] where the place of the files isn't there, and then
@@ -100,7 +101,7 @@ pub fn answer_strings<B: Geometry, L: Library, O: Sink>(
     }
 }
 
-/// Answers a list of texts, one after the other, after what was sent before all answers, and counts
+/// Answers a list of strings, one after the other, after what stands before all answers, and counts
 /// those that are answered by a fault.
 ///
 /// # Errors

@@ -92,7 +92,7 @@ impl<'n, 'l, 't, B: Geometry, L: Library> Folder<'n, 'l, 't, B, L> {
         Ok(())
     }
 
-    /// Has the file open that tells the value of a position, if there is one.
+    /// Has the file open that states the value of a position, if there is one.
     ///
     /// # Errors
     /// Those of [`open_file`](Folder::open_file), where it wasn't open.

@@ -1,4 +1,4 @@
-//! The values by which positions are asked for.
+//! The values by which positions are looked for.
 ghost use Rattle.std.specs.Prelude.{◌≡◌, ℕ, ◌^◌, ◌≤◌, List, ◌++◌, length, IfNone, IfSome};
 ghost use Rattle.morris_queries.specs.Wanted.{AreKindsBy, IsGreatestDepth, ReadsWanted, WritesNumber, is_of_kind};
 
@@ -36,7 +36,7 @@ impl Kind {
     }
 }
 
-/// Which positions are asked for.
+/// Which values are looked for.
 #[derive(Clone, Copy, Debug, PartialEq, Eq)]
 pub enum Wanted {
     /// All whose value is of this kind.
@@ -45,7 +45,7 @@ pub enum Wanted {
     Deepest,
 }
 
-/// What a text asks for: `draw`, `won`, `lost`, `won in D`, `lost in D` or `deepest`.
+/// The values that a text names: `draw`, `won`, `lost`, `won in D`, `lost in D` or `deepest`.
 ///
 /// # Errors
 /// [`Fault::ValueText`] for any other text.
@@ -65,8 +65,8 @@ pub fn read_wanted(text: &str) -> Result<Wanted, Fault>
     }
 }
 
-/// The number that a text writes after these words; `None` where it doesn't begin with them, or the
-/// rest is no number of 16 bits.
+/// The number that follows `words` in a text; `None` where the text doesn't begin with them, or no
+/// number of 16 bits follows.
 fn depth_after(words: &str, text: &str) -> Option<u16>
     ensures written { IfSome result (λ depth. (digits : List ℕ) × (text.now ≡ words.now ++ digits) × WritesNumber digits depth) }
     ensures none { IfNone result ((digits : List ℕ) (depth : ℕ) → text.now ≡ words.now ++ digits → ¬ WritesNumber digits depth) }
@@ -77,7 +77,7 @@ fn depth_after(words: &str, text: &str) -> Option<u16>
     }
 }
 
-/// The kinds of values that are asked for, one after the other, by the tallies of positions: one;
+/// The kinds of values that are looked for, one after the other, by the tallies of positions: one;
 /// or of the deepest ones, won in the greatest depth that one of those with these tallies has, and
 /// lost in the greatest. `None` where none is won, or lost.
 pub(crate) fn kinds_by(wanted: Wanted, tallies: &[u64]) -> (Option<Kind>, Option<Kind>)
@@ -93,8 +93,8 @@ pub(crate) fn kinds_by(wanted: Wanted, tallies: &[u64]) -> (Option<Kind>, Option
     }
 }
 
-/// The greatest depth of the codes that some position has and that leave this rest when divided by
-/// 2: 0 are those of wins, and 1 those of losses.
+/// The greatest depth of the codes that some position has and that leave this remainder when
+/// divided by 2: 0 are those of wins, and 1 those of losses.
 fn greatest_depth(tallies: &[u64], rest: usize) -> Option<u16>
     requires { length tallies.now ≤ 2 ^ 16 }
     ensures { IsGreatestDepth tallies.now rest result }

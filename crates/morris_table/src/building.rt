@@ -25,7 +25,7 @@ use std::thread::Threads;
 
 /// Whether the table of a pair by classes is built from a graph by rows: that of each pair of two
 /// different numbers but 5-4 and 6-5. There rows save no time, as far as was measured: what they
-/// save on the way back doesn't pay for putting the codes into the order of the entries.
+/// save in listing predecessors doesn't pay for putting the codes into the order of the entries.
 pub fn is_by_rows<B: Geometry>(pair: Pair<B>) -> bool
     ensures { result ≡ true → pair.lesser < pair.greater }
 {
@@ -47,7 +47,7 @@ fn to_build_fault<B: Geometry>(fault: SolveFault) -> BuildFault<B>
 }
 
 /// The exact table of a pair, over the tables of the pairs that it needs. So many workers build it
-/// from the pair's graph, cut into so many blocks, and ask the gate before each piece of work.
+/// from the pair's graph, cut into so many blocks, and ask the gate after each draw of a block.
 ///
 /// Whatever the numbers of workers and blocks, the gate and the order of the workers, the table
 /// gives a win or a loss with its least number of plies under best play exactly where one can be
@@ -57,8 +57,8 @@ fn to_build_fault<B: Geometry>(fault: SolveFault) -> BuildFault<B>
 /// `Needs` with the first of the pairs that the pair needs whose table isn't on the shelf, before
 /// all else. Then `Workers` where there aren't 1 to 64 of them, and `Blocks` where there aren't 1
 /// to 1,024. Then `Memory` where memory is refused, `Missing` with the least number of a block that
-/// isn't complete, since a worker was told to leave, and `TooDeep` where a code of 16 bits can't
-/// tell all values.
+/// isn't complete, since the gate made a worker leave, and `TooDeep` where codes of 16 bits can't
+/// state all values.
 pub fn build<B: Board, A: Gate, R: Threads + Wait + Sync>(
     rt: &R,
     alloc: Global,
@@ -112,12 +112,12 @@ pub fn build_as<B: Board, A: Gate, R: Threads + Wait + Sync>(
     )
 }
 
-/// [`build_as`] over a set of tables, and tells `watch` as [`solve_with`] does: after each block
-/// that this thread makes, and then of each wave, in their order (see [`Watch`]).
+/// [`build_as`] over a set of tables, which reports to `watch` as [`solve_with`] does: after each
+/// block that this thread makes, and then each wave, in their order (see [`Watch`]).
 ///
 /// # Errors
-/// Those of [`build_as`], in the same order. The watch is told nothing before the graph of the pair
-/// is made and the numbers of workers and blocks are in range.
+/// Those of [`build_as`], in the same order. Nothing is reported before the graph of the pair is
+/// made and the numbers of workers and blocks are in range.
 pub fn build_watched<B: Board, A: Gate, V: Watch, R: Threads + Wait + Sync>(
     rt: &R,
     alloc: Global,
@@ -136,7 +136,7 @@ pub fn build_watched<B: Board, A: Gate, V: Watch, R: Threads + Wait + Sync>(
     // Whenever a block's lock is free, each decided entry is the game's value and exact depth at
     // its position and the tallies count the entries.
     ensures whenever { (o : Order) (s : BlockState) → IsBlockIn B.shape o pair s → StatesIn B.shape o pair s }
-    // The watch is as it may be after it was told, whatever the answer.
+    // The watch is as it may be after reports, whatever the answer.
     ensures watched { V.becomes watch.old watch.new }
 {
     match layout {

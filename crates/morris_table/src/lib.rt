@@ -1,5 +1,9 @@
-//! Tables of the game's values, pair by pair, made by several workers. All else that there is to a
-//! table stands in `morris_pairs`, which is proved beside the workers, and is found here too.
+//! Tables of the game's values, pair by pair, made by several workers.
+//!
+//! - `building`: the table of a pair, in either layout
+//!
+//! All else that there is to a table stands in `morris_pairs`, which is proved beside the workers,
+//! and is found here too.
 #![tactic(auto)]
 
 pub mod building;

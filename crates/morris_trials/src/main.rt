@@ -1,16 +1,22 @@
-//! What the libraries do where memory is wanting, the commands too that run on the thread of the
+//! What the libraries do where memory runs out, and the commands that run on the thread of the
 //! caller. No part of the product.
 //!
 //! The program makes a call by itself: it prints what the call answers, how it leaves what it works
-//! on, and what it answers when it is made again. The words of the command line are names of calls.
+//! on, and what it answers when it is made again. Its arguments are names of calls.
 //! `tests/cli/memory.py` runs this program once for each request for memory of each call, and has
 //! that request refused.
 //!
-//! A word that names no call has positions, which are probed over the table files on standard
-//! input: `tests/lookups` compares what `lookup` answers with that.
+//! An argument that names no call has position strings, which are probed over the table files on
+//! standard input: `tests/lookups` compares what `lookup` answers with that.
 //!
 //! Its functions have no clauses: what they print is compared by the gate, with the stored output
 //! and after each refusal, and no contract can say what a terminal takes.
+//!
+//! - `engine`: calls on graphs and their blocks
+//! - `tables`: calls on tables
+//! - `threads`: calls that build a table by several workers
+//! - `calls`: the commands on the thread of the caller
+//! - `probes`: what the prober says of many positions
 #![tactic(auto)]
 
 mod calls;
@@ -37,7 +43,7 @@ fn main(rt: HostRuntime) -> ExitCode {
     ExitCode::from(0)
 }
 
-/// Makes the call of this name, or probes the positions that the word has.
+/// Makes the call of this name, or probes the positions that the argument has.
 fn run<R: Print + Input + Threads + Wait + Sync>(rt: &R, alloc: Global, name: &str) -> Option<()> {
     match name {
         "sweep" => engine::sweeps(rt, alloc),

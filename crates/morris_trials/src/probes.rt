@@ -10,9 +10,9 @@ use std::alloc::Global;
 /// How many files may stand one after the other on the input.
 const MOST_FILES: usize = 64;
 
-/// Prints what `probe` prints of each of these positions of the board `nine`, whose texts are
-/// parted by commas, over the files on standard input. `probe` would verify them for each position;
-/// `tests/lookups` asks for so many that this would take hours.
+/// Prints what `probe` prints of each of these positions of the board `nine`, whose strings have
+/// commas between them, over the files on standard input. `probe` would verify them for each
+/// position; `tests/lookups` asks for so many that this would take hours.
 pub(crate) fn probes(rt: &(impl Print + Input), alloc: Global, texts: &str) -> Option<()> {
     let shelf = verified_input(rt, alloc)?;
     for text in texts.split(',') {

@@ -98,12 +98,12 @@ pub(crate) fn goes_back(rt: &impl Print, alloc: Global) -> Option<()> {
     goes_back_in(rt, alloc, &PairGraph::new(&shelf, pair).ok()?)
 }
 
-/// Goes back from a position of a graph.
+/// Lists the predecessors of a position in a graph.
 fn goes_back_in(rt: &impl Print, alloc: Global, graph: &PairGraph<'_, Grid>) -> Option<()> {
     if graph.size() < 982 {
         return None;
     }
-    // What stands in the list before is forgotten, refused or not.
+    // What was in the list before is dropped, refused or not.
     let mut list = Vec::new(alloc);
     list.push(7).ok()?;
     list.shrink_to_fit();

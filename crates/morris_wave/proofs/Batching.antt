@@ -24,7 +24,7 @@ sum_same p q [] h = refl
 sum_same p q (x ∷ xs) h =
     omega (arith, sum_by-cons p x xs, sum_by-cons q x xs, h 0 0 (omega arith), sum_same p q xs (λ k d l. h (suc k) d (omega arith)))
 
--- how often the numbers of one list stand in another, told from either side
+-- how often the numbers of one list stand in another, counted from either side
 zeros : (ys : List ℕ) → sum_by (λ (j : ℕ). 0) ys ≡ 0
 zeros [] = refl
 zeros (y ∷ ys) = omega (arith, sum_by-cons (λ (j : ℕ). 0) y ys, zeros ys)
@@ -49,7 +49,7 @@ both_sides (x ∷ xs) ys = omega (arith, sum_by-cons (λ z. times z ys) x xs, on
 pub not_there : (j : ℕ) (xs : List ℕ) → All (λ x. x ≡ j → ⊥) xs → times j xs ≡ 0
 not_there j xs h = times_none j xs (λ p l. h p 0 l)
 
--- one piece more, whose predecessors were dealt
+-- one chunk more, whose predecessors were dealt
 pub lead_append : (g : Net) (c : Parts) (done piece : List ℕ) (old new : List (List ℕ)) (before : List ℕ)
     → ((i : ℕ) → i < c.size → times i before ≡ sum_by (λ x. times x (g.quiet i)) piece) → LeadTo g c old done → Deals c old new before → LeadTo g c new (done ++ piece)
 lead_append g c done piece old new before law lead deals i l =

@@ -1,4 +1,4 @@
--- The steps of a block.
+-- How a block goes from wave to wave.
 use Rattle.std.proofs.Common.{◌≡◌, ℕ, ◌+◌, ◌-◌, ◌*◌, ◌<◌, ◌≤◌, Bool, true, false, not, ◌&&◌, ◌||◌, eqb, ltb, List, [], length, get_or, set, sym, ap, ap₂, ◌∙◌, subst, ⊎_elim, arith, get_or-set_same, get_or-set_other, length-set}
 use Rattle.std.specs.List.{count_by, All}
 use Rattle.std.proofs.Math.Nat.{div-lt_iff_lt-mul, mul-le-mul_right}
@@ -53,7 +53,7 @@ make_holds law level number cut is_cut size inside first_is count_is node_range 
 }
 
 module _ {g : Net} (law : IsNet g) {s : BlockState} {first : ℕ} {codes counters : List ℕ} {due : List (List ℕ)} {last_due most : ℕ} (h : BlockHolds g s first codes counters due last_due most) where
-  -- the nodes of the block are those of the stretch
+  -- the nodes of the block are those of its range
   pub inside_low : (i : ℕ) → IsIn s.cut s.number i → first ≤ i
   inside_low i inside = omega (arith, inside.0, h.first_is)
 

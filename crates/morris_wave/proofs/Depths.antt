@@ -131,7 +131,7 @@ mutual
       is_odd-suc (suc n) ∙ ap not (lost_exit_new n d.0 d.1 d.2))
       (or_cases (list_any (is_lost_before g (suc n)) (g.quiet i)) (list_any (is_lost_exit (suc n)) (g.exits i)) h)
 
--- the steps of `code_within`
+-- `code_within` from one number of plies to the next
 pub code_kept : (g : Net) (n i : ℕ) → is_decided g n i ≡ true → code_within g (suc n) i ≡ code_within g n i
 unfolding code_within
 code_kept g n i h = cond-true (is_decided g n i) (code_within g n i) (cond (is_decided g (suc n) i) (suc n) 0) h

@@ -1,4 +1,4 @@
--- Numbers that gaps tell of.
+-- Numbers that gaps stand for.
 use Rattle.std.proofs.Common.{◌≡◌, ℕ, ◌+◌, ◌≤◌, Bool, true, false, cond, eqb, List, [], ◌∷◌, ◌++◌, refl, sym, ap, ◌∙◌, append-nil, arith}
 use Rattle.std.proofs.lemmas.Bool.{cond-false, ne_eqb}
 use Rattle.morris_wave.specs.Gaps.{numbers_reported, next_reported}

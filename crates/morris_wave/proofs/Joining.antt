@@ -1,4 +1,4 @@
--- Nodes that are taken in one piece after the other, each of them once at most.
+-- Nodes that are taken in one chunk after the other, each of them once at most.
 use Rattle.std.proofs.Common.{◌≡◌, ℕ, ◌+◌, ◌%◌, ◌<◌, ◌≤◌, ◌&&◌, ◌||◌, eqb, List, [], ◌++◌, length, get_or, refl, sym, ap, ◌∙◌, ⊎_elim, arith}
 use Rattle.std.proofs.lemmas.Bool.{cases_lt}
 use Rattle.std.proofs.lemmas.Bool.Decides.{nat_tests}
@@ -19,7 +19,7 @@ takes_none n first codes counters small = record {
   even = λ _. (λ k l. omega (arith, small k l), λ k l. sym (marked_none (get_or codes k 0) (n + 1)));
 }
 
--- a node of either piece is spent by it
+-- a node of either chunk is spent by it
 spent : (i : ℕ) (a b : List ℕ) (mid new : ℕ) → times i (a ++ b) ≤ 1 → new < 65536 → (new + times i b) % 65536 ≡ mid
     → (among (a ++ b) i && eqb new 0) ≡ ((among a i && eqb mid 0) || (among b i && eqb new 0))
 spent i a b mid new once small falls =
@@ -53,7 +53,7 @@ left_same (Words old) (Words new) k most same = ap left_of same
 left_same (Bytes old) (Words new) k most same = absurd (omega (arith, most))
 left_same (Words old) (Bytes new) k most same = absurd (omega (arith, most))
 
--- what falls in the second piece didn't in the first one
+-- what falls in the second chunk didn't in the first one
 pub left_later : (old new : Counters) (i k : ℕ) (a b : List ℕ) → most_of new ≡ most_of old → (get_or (counts_of new) k 0 + times i a) % 65536 ≡ get_or (counts_of old) k 0
     → get_or (counts_of new) k 0 < 65536 → times i (a ++ b) ≤ 1 → times i (a ++ b) ≤ left_at old k → times i b ≤ left_at new k
 left_later old new i k a b most falls small once enough =

@@ -123,7 +123,7 @@ within_decided g n i h =
     (λ e. or_right (is_lost_before g (suc n) i) (is_won_before g (suc n) i) (won_within_back g n i e))
     h
 
--- the depth tells the outcome
+-- the depth says who wins
 module _ (g : Net) (i depth : ℕ) (h : HasDepth g i depth) where
   neither : (is_lost_before g depth i ≡ false) × (is_won_before g depth i ≡ false)
   neither = or_parts (is_lost_before g depth i) (is_won_before g depth i) h.not_before

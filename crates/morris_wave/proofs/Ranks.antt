@@ -146,7 +146,7 @@ module _ {all : Bool} (first wave before here : ℕ) (codes decided : List ℕ) 
     this = λ p a l. absurd (omega (arith, a, l));
   }
 
-  -- nodes of codes below the wave are let go, unless all are kept
+  -- nodes of codes below the wave are let go, unless all are retained
   module _ (gone : ℕ) (le : gone ≤ before) (whole : all ≡ true → gone ≡ 0) where
     later : (p : ℕ) → get_or (drop gone decided) p 0 ≡ get_or decided (gone + p) 0
     later p = get_or-drop gone decided p 0
@@ -189,7 +189,7 @@ module _ {all : Bool} (first wave before here : ℕ) (codes decided : List ℕ) 
       this = λ p a l. ap (code_of first codes) (later p) ∙ h.this (gone + p) (omega (arith, a)) (omega (arith, l, left));
     }
 
-  -- the stretch of the wave has each node of its code once, and no other
+  -- the wave's range of the list has each node of its code once, and no other
   pub node_range_once : (k : ℕ) → k < length codes → times (first + k) (take (here - before) (drop before decided)) ≡ cond {A = ℕ} (ltb 0 wave && eqb (get_or codes k 0) wave) 1 0
   node_range_once k l =
       let upper : times (first + k) (take here decided) + times (first + k) (drop here decided) ≡ times (first + k) decided = sum_by-take-drop (λ x. cond {A = ℕ} (eqb x (first + k)) 1 0) decided here in
@@ -239,7 +239,7 @@ module _ {all : Bool} (first wave before here : ℕ) (codes decided : List ℕ) 
       let w = h.inside (before + p) d (omega (arith, q, h.within)) in
       (omega (arith, at, w.0), omega (arith, at, w.1))
 
-  -- some node got the code of this wave exactly where its stretch isn't empty
+  -- some node got the code of this wave exactly where the range after that isn't empty
   pub some_this : ltb here (length decided) ≡ list_any (λ c. eqb c (wave + 1)) codes
   some_this =
       ⊎_elim
@@ -262,7 +262,7 @@ module _ {all : Bool} (first wave before here : ℕ) (codes decided : List ℕ) 
       omega (arith, one, nowhere))))
       (cases_lt here (length decided))
 
--- each decided node once where all are kept, by any test that says which codes aren't 0
+-- each decided node once where all are retained, by any test that says which codes aren't 0
 pub ranked_once : (first wave before here : ℕ) (codes decided : List ℕ) → Ranked true first wave codes decided before here → (k : ℕ) → k < length codes → (test : Bool)
     → (get_or codes k 0 ≡ 0) ↔ (test ≡ false) → times (first + k) decided ≡ cond {A = ℕ} test 1 0
 ranked_once first wave before here codes decided h k l test e =
@@ -301,7 +301,7 @@ room_left codes place inside open_yet =
     let one : cond {A = ℕ} (eqb (get_or codes place 0) 0) 1 0 ≡ 1 = cond-true {A = ℕ} (eqb (get_or codes place 0) 0) 1 0 (eq-eqb (get_or codes place 0) 0 open_yet) in
     omega (arith, all, le, one)
 
--- the stretch of a wave, node after node
+-- a wave's range of the list, node after node
 pub node_range_none : (before : ℕ) (decided : List ℕ) → [] ≡ take (before - before) (drop before decided)
 node_range_none before decided = let z : 0 ≡ before - before = omega arith in ap (λ n. take n (drop before decided)) z
 

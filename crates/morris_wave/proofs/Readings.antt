@@ -1,4 +1,4 @@
--- What is read of the exits of a stretch, node after node.
+-- What is read of the exits of a range, node after node.
 use Rattle.std.proofs.Common.{◌≡◌, ℕ, ◌+◌, ◌%◌, ◌<◌, ◌≤◌, max, false, ◌&&◌, ◌||◌, cond, eqb, ltb, List, Option, Some, None, length, get_or, set, refl, sym, ap, ap₂, ◌∙◌, subst, ⊎_elim, arith, get_or-set_other, get_or-set_same}
 use Rattle.std.proofs.lemmas.Bool.{cases_eq, cases_lt, eq-eqb, ne_eqb, le-ltb}
 use Rattle.morris_wave.specs.declared.graph.Exits.{Exits}

@@ -1,4 +1,4 @@
--- A stretch of nodes goes from wave to wave.
+-- A range of nodes goes from wave to wave.
 use Rattle.std.proofs.Common.{◌≡◌, ℕ, suc, ◌+◌, ◌-◌, ◌%◌, ◌<◌, ◌≤◌, ◌↔◌, Bool, true, false, not, ◌&&◌, ◌||◌, cond, eqb, ltb, List, [], length, get_or, set, refl, sym, ap, ap₂, ◌∙◌, subst, ⊎_elim, inl, ◌⊎◌, arith}
 use Rattle.std.specs.List.{count_by, list_any}
 use Rattle.std.specs.List.Sorted.{IsNonDecreasingBy}
@@ -52,7 +52,7 @@ module _ {g : Net} (law : IsNet g) {n : ℕ} {a : ℕ → Bool} {first : ℕ} {c
   pub node_in : (k : ℕ) → k < length codes → first + k < g.size
   node_in k l = omega (arith, h.in_graph, l)
 
-  -- the entry of a node of the stretch
+  -- the entry of a node of the range
   pub entry_is : (i : ℕ) → first ≤ i → i < first + length codes → code_of first codes i ≡ entry_at g n a i
   entry_is i low high =
       let here : first + (i - first) ≡ i = omega (arith, low) in
@@ -85,7 +85,7 @@ module _ {g : Net} (law : IsNet g) {n : ℕ} {a : ℕ → Bool} {first : ℕ} {c
       (ap (λ x. ltb 0 n && eqb x n) (entry_is i low high)
       ∙ (fresh_entry g n a i ∙ ap (is_fresh g n) (sym at))))
 
-  -- the parts that are applied may be told in other words
+  -- the parts that are applied may be stated in other words
   pub holds_same : (b : ℕ → Bool) → ((j : ℕ) → j < g.size → known_won g n a j ≡ known_won g n b j) → ((j : ℕ) → j < g.size → known_lost g n a j ≡ known_lost g n b j)
       → NodeRangeHolds g n b first codes counters due last_due
   holds_same b won lost = record {

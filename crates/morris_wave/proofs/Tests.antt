@@ -26,7 +26,7 @@ module _ {X : Type 0} (p q : X → Bool) where
       let w = and_parts (p x) (list_all p xs) h in
       ⊎_elim (λ e. clash x w.0 e) (λ e. all_any clash xs w.1 e) (or_cases (q x) (list_any q xs) k)
 
-  -- where all pass one test and not all pass the other, some element tells them apart
+  -- where all pass one test and not all pass the other, some element passes the first alone
   pub all_differ : (xs : List X) → list_all p xs ≡ true → list_all q xs ≡ false → (x : X) × (p x ≡ true) × (q x ≡ false)
   all_differ [] h k = absurd (both_ways true k refl)
   all_differ (x ∷ xs) h k =

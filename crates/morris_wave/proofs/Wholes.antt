@@ -1,4 +1,4 @@
--- The waves of a whole graph as one stretch.
+-- The waves of a whole graph as one range.
 use Rattle.std.proofs.Common.{◌≡◌, ℕ, suc, ◌+◌, ◌-◌, ◌<◌, ◌≤◌, Bool, true, false, ◌&&◌, cond, eqb, List, length, get_or, take, drop, refl, sym, ap, ◌∙◌, subst, arith, zero-add, length-take, length-drop}
 use Rattle.std.specs.List.{list_any, count_by}
 use Rattle.std.proofs.lemmas.Bool.{cond-true, cond-false, eqb-true, eq-eqb, lt-ltb, false_from_ne_true, true_from_ne_false}
@@ -18,7 +18,7 @@ use Rattle.morris_wave.proofs.Ranks.{node_range_inside, node_range_once}
 use Rattle.morris_wave.proofs.Settling.{IsQuiet, quiet_codes, not_too_deep}
 use Rattle.morris_wave.proofs.Stretches.{take_enough, take_few, take_holds, holds_same, holds_alike, fresh_once, codes_within, no_depth, due_by}
 
--- the nodes of the wave's stretch of the list are the fresh ones
+-- the nodes of the wave's range of the list are the fresh ones
 module _ {g : Net} (law : IsNet g) {n : ℕ} {a : ℕ → Bool} {codes counters : List ℕ} {due : List (List ℕ)} {last_due : ℕ} (h : NodeRangeHolds g n a 0 codes counters due last_due)
     (len : length codes ≡ g.size) where
   pub fresh_listed : {all : Bool} → (decided : List ℕ) (before here : ℕ) → Ranked all 0 n codes decided before here → ListsFresh g n (take (here - before) (drop before decided))
@@ -30,7 +30,7 @@ module _ {g : Net} (law : IsNet g) {n : ℕ} {a : ℕ → Bool} {codes counters 
 pub fresh_length : (old : List ℕ) (before here : ℕ) → here ≤ length old → length (take (here - before) (drop before old)) ≡ here - before
 fresh_length old before here le = omega (arith, le, length-take (here - before) (drop before old), length-drop before old)
 
--- a node of that stretch, whatever was put behind it meanwhile
+-- a node of that range, whatever was put after it meanwhile
 pub fresh_at : (old new : List ℕ) (before here place : ℕ) → here ≤ length old → take here new ≡ take here old → before ≤ place → place < here
     → (place - before < length (take (here - before) (drop before old))) × (get_or new place 0 ≡ get_or (take (here - before) (drop before old)) (place - before) 0)
 fresh_at old new before here place le same low high =

@@ -77,7 +77,7 @@ pub record BlockHolds (g : Net) (s : BlockState) (first : ℕ) (codes counters :
   -- each node has fewer quiet results than the counters are for
   pub few : AreFew g first (length codes) most
 
--- What every block keeps, whatever is done with it: it is one of a cut of its graph into at most
+-- What holds of every block, whatever is done with it: it is one of a cut of its graph into at most
 -- 1,024 blocks, at one of the waves from 0 to 65,534.
 pub record IsBlock (g : Net) (s : BlockState) : Type 0 where
   pub cut : IsCut s.cut

@@ -1,4 +1,4 @@
--- What stays of a stretch at a wave, and a stretch that is a whole graph.
+-- What stays of a range of nodes at a wave, and a range that is a whole graph.
 use Rattle.std.specs.Prelude.{◌≡◌, ℕ, Bool, length, take}
 use Rattle.morris_wave.specs.Nets.{Net}
 use Rattle.morris_wave.specs.NodeRanges.{NodeRangeHolds}
@@ -17,7 +17,7 @@ pub record SameFrame {L : Type 0} {kind : Ghosts L} (old new : Listed L kind) : 
   pub here : new.here ≡ old.here
   pub list : take old.here (kind.items new.decided) ≡ take old.here (kind.items old.decided)
 
--- The stretch is the whole graph at its wave, of which the nodes that pass a test are applied.
+-- The range is the whole graph at its wave, of which the nodes that pass a test are applied.
 pub record IsWhole {L : Type 0} {kind : Ghosts L} (g : Net) (applied : ℕ → Bool) (whole : NodeRange L kind) : Type 0 where
   pub first : whole.entries.first ≡ 0
   pub len : length whole.entries.codes ≡ g.size

@@ -1,4 +1,4 @@
--- Lists of nodes told by gaps.
+-- Lists of nodes stored as gaps.
 use Rattle.std.specs.Prelude.{ℕ, List}
 use Rattle.morris_wave.specs.declared.gaps.Gaps.{Gaps}
 use Rattle.morris_wave.specs.Gaps.{numbers_reported}

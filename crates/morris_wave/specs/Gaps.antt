@@ -1,7 +1,7 @@
--- Ascending numbers told by the gaps between them.
+-- Ascending numbers stored as the gaps between them.
 use Rattle.std.specs.Prelude.{ℕ, ◌+◌, List, [], ◌∷◌, ◌==◌, if◌then◌else◌}
 
--- The numbers that gaps tell of, if the first one is at least `from`. A gap says how many numbers
+-- The numbers that gaps stand for, if the first one is at least `from`. A gap says how many numbers
 -- are left out before the next one; 65,535 says only that so many are left out, and the next gap
 -- goes on from there.
 abbrev pub numbers_reported : ℕ → List ℕ → List ℕ

@@ -1,4 +1,4 @@
--- What is kept of a stretch of nodes, in place of their exits.
+-- What is stored of a range of nodes, in place of their exits.
 use Rattle.std.specs.Prelude.{◌≡◌, ℕ, ◌+◌, ◌-◌, ◌%◌, ◌<◌, ◌≤◌, Bool, true, false, ◌&&◌, nat_lt, List, length, slice_index, Some, None, ◌==◌, if◌then◌else◌}
 use Rattle.std.specs.List.{All}
 use Rattle.std.specs.List.Sorted.{IsNonDecreasingBy}
@@ -28,7 +28,7 @@ abbrev pub code_of : ℕ → List ℕ → ℕ → ℕ
 code_of first codes i = slice_index codes (i - first)
 
 -- The decided nodes, each once, in order of their codes. Those up to `before` have codes below the
--- wave, those up to `here` the wave itself, the others one more. Unless all are kept, nodes of
+-- wave, those up to `here` the wave itself, the others one more. Unless all are retained, nodes of
 -- codes below the wave may be missing.
 pub record Ranked (all : Bool) (first wave : ℕ) (codes decided : List ℕ) (before here : ℕ) : Type 0 where
   pub inside : All (λ i. (first ≤ i) × (i < first + length codes)) decided
@@ -67,7 +67,7 @@ pub record Takes (n first : ℕ) (nodes codes codes' counters counters' : List �
 abbrev pub due_within : ℕ → ℕ
 due_within wave = if nat_lt wave 65535 then wave else 0
 
--- What is kept of the nodes from `first` on at a wave, of which the nodes that pass a test are
+-- The range of the nodes from `first` on at a wave, of which the nodes that pass a test are
 -- applied: their codes, what they wait for, which of them come due by their exits at later waves,
 -- and when the last exit does.
 pub record NodeRangeHolds (g : Net) (n : ℕ) (applied : ℕ → Bool) (first : ℕ) (codes counters : List ℕ) (due : List (List ℕ)) (last_due : ℕ) : Type 0 where

@@ -52,8 +52,8 @@ unfoldable pub code_within : Net → ℕ → ℕ → ℕ
 code_within g zero i = 0
 code_within g (suc n) i = if is_decided g n i then code_within g n i else (if is_decided g (suc n) i then suc n else 0)
 
--- A graph is too deep where codes of 16 bits can't tell its values: a node's own depth is 65,534 or
--- more, or 65,534 is its least depth of a lost exit or its greatest depth of a won exit.
+-- A graph is too deep where codes of 16 bits can't state its values: a node's own depth is 65,534
+-- or more, or 65,534 is its least depth of a lost exit or its greatest depth of a won exit.
 abbrev pub IsTooDeep : Net → Type 0
 IsTooDeep g = (i : ℕ) × (i < g.size) × (((depth : ℕ) × (65534 ≤ depth) × HasDepth g i depth)
     ⊎ (((exits_of (g.exits i)).least_lost ≡ Some 65534) ⊎ ((exits_of (g.exits i)).greatest_won ≡ Some 65534)))

@@ -32,7 +32,7 @@ pub enum AdvanceFault {
     /// Not all sources of this wave are applied.
     #[error("wave is not complete")]
     NotComplete,
-    /// This is the last wave that entries can tell of.
+    /// This is the last wave: a code of 16 bits has no room for a later one.
     #[error("depth is too great")]
     TooDeep,
 }
@@ -108,12 +108,12 @@ impl<N: Levels, L: NodeList> Model for Batch<N, L> {
 /// `n - 1` and its block is applied, or the piece of its block's fresh nodes that it is in. A
 /// decided node's entry is its code, an open node's is 0.
 ///
-/// A block keeps 2 bytes a node, one more where some node of it has more than 254 quiet results,
-/// and one more once a depth is above 254. It keeps a list of the kind `L` of the nodes that are
+/// A block takes 2 bytes a node, one more where some node of it has more than 254 quiet results,
+/// and one more once a depth is above 254. It has a list of the kind `L` of the nodes that are
 /// decided: of 8 bytes for each, or of 4 where all nodes of the graph are below 2^32. Where `L` is
 /// [`Recent`](crate::Recent), the nodes that were decided before the wave are let go. Room for all
 /// nodes and codes is taken in `make`; what isn't filled of it is never used. Of the nodes that
-/// come due by their exits it keeps 2 bytes each until the wave at which they do.
+/// come due by their exits it stores 2 bytes each until the wave at which they do.
 #[derive(Drop)]
 pub struct Block<N: Levels, L: NodeList = Vec<u64>> {
     level: u64,

@@ -1,12 +1,12 @@
-//! What the nodes of a stretch wait for: a counter each, of 8 bits where that is enough.
+//! What the nodes of a range wait for: a counter each, of 8 bits where that is enough.
 ghost use Rattle.std.specs.Prelude.{◌≡◌, ℕ, ◌+◌, ◌%◌, ◌<◌, ◌≤◌, ◌==◌, nat_lt, IfOk, List, length, slice_index, slice_set};
 ghost use Rattle.morris_wave.specs.NodeRanges.{left_of};
 ghost use Rattle.morris_wave.specs.Counts.{counts_of, most_of, left_of_byte};
 
 use std::alloc::{AllocError, Global};
 
-// The counters of a stretch of nodes. Those of 8 bits are for nodes of at most 254 quiet results,
-// so that none of them wraps; of those of 16 bits one that reads 0 may stand for 65,536.
+// The counters of a range of nodes. Those of 8 bits are for nodes of at most 254 quiet results, so
+// that none of them wraps; of those of 16 bits one that reads 0 may stand for 65,536.
 #[derive(Drop)]
 pub(crate) enum Counters {
     Bytes(Vec<u8>),
@@ -46,7 +46,7 @@ pub(crate) trait CounterList: Drop {
         ensures lowered { counts self.new ≡ slice_set (counts self.old) place ((slice_index (counts self.old) place + 65535) % 65536) }
         ensures spent { result ≡ (((slice_index (counts self.old) place + 65535) % 65536) == 0) };
 
-    // The counters as a block keeps them.
+    // The counters, of whichever width.
     fn into_counters(self) -> Counters
         ensures counts { counts_of result ≡ counts self }
         ensures most { most_of result ≡ most };

@@ -12,7 +12,7 @@ pub(crate) const FAR: u64 = 65535;
 // How many gaps are read at a time.
 pub(crate) const AT_ONCE: usize = 256;
 
-// Nodes in ascending order, each told by how many nodes are left out before it. So a node takes 2
+// Nodes in ascending order, each stored as how many nodes are left out before it. So a node takes 2
 // bytes, however many the graph has; only where more than 65,534 are left out it takes 2 more for
 // each 65,535 of them.
 #[derive(Drop)]
@@ -69,7 +69,7 @@ impl Gaps {
         Ok(())
     }
 
-    // Leaves out as many nodes as a gap can tell of.
+    // Leaves out as many nodes as one gap can.
     #[inline(never)]
     fn leave_out(&mut self) -> Result<(), AllocError>
         requires { self.old.next + 65535 ≤ 2 ^ 40 }

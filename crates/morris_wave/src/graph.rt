@@ -165,7 +165,7 @@ pub trait Levels: Send + Sync {
     // The graph of a level.
     ghost net: { ℕ → Net };
 
-    // Each of them keeps the limits: at most 2^40 nodes, quiet results that are nodes, at most
+    // Each of them is within the limits: at most 2^40 nodes, quiet results that are nodes, at most
     // 65,535 at a node, and no code above 65,535.
     ghost lawful: { (level : ℕ) → IsNet (net level) };
 }

@@ -1,7 +1,23 @@
 //! Exact depths of win and loss over any graph with exits.
 //!
 //! The crate knows no game. A [`Graph`] gives each node's results, and [`sweep`] the code of each
-//! node. A [`Watch`] is told how far such work is.
+//! node. Both a sweep and a solver by workers report their progress to a [`Watch`].
+//!
+//! Graphs:
+//! - `graph`: what a graph is, and the summary of a node's exits; `cut`: its nodes in blocks
+//!
+//! A block, as it goes from wave to wave:
+//! - `block`: the block, its fresh nodes and its batches; `scattering`: batches from fresh nodes
+//! - `node_range`: the nodes of a block; `reading`: how they begin; `propagate`: what new results
+//!   do to them
+//! - `listed`: the entries of the nodes and the list of those that are decided; `node_list`: kinds
+//!   of lists
+//! - `codes`, `counters`: numbers of one byte while that is enough
+//! - `due`, `gaps`: the nodes that come due by their exits, wave by wave, in 2 bytes each
+//!
+//! A whole graph:
+//! - `gathering`: its codes from its blocks; `sweeping`: its codes by one thread
+//! - `watch`: how progress is reported
 #![tactic(auto)]
 
 mod block;

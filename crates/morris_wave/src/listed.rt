@@ -12,9 +12,9 @@ use std::alloc::{AllocError, Global};
 
 // The entries of the nodes from `first` on at a wave, how many of them are won and lost, and the
 // decided nodes in order of their codes. Of these, those from the place `before` up to, not
-// including, `here` have the code of the wave; those behind it got theirs at this wave. A list that
-// forgets has lost those before them. There is room for every node; what isn't used of it takes no
-// memory, as long as the system hands out pages at their first use.
+// including, `here` have the code of the wave; those after them got theirs at this wave. A list
+// that forgets has lost those before them. There is room for every node; what isn't used of it
+// takes no memory, as long as the system hands out pages at their first use.
 #[derive(Drop)]
 pub(crate) struct Listed<L: NodeList> {
     pub(crate) first: u64,

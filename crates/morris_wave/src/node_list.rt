@@ -4,8 +4,8 @@ ghost use Rattle.morris_wave.specs.Lists.{contents, list_at};
 
 use std::alloc::{AllocError, Global};
 
-/// A list of nodes, as blocks keep and batches carry them: of 8 bytes a node, or of 4 where all
-/// nodes of the graph are below 2^32.
+/// A list of nodes, as blocks and batches have it: of 8 bytes a node, or of 4 where all nodes of
+/// the graph are below 2^32.
 pub trait NodeList: Drop {
     /// The nodes, in their order.
     ghost items: { Self → List ℕ };
@@ -32,7 +32,7 @@ pub trait NodeList: Drop {
         ensures empty { IfOk result (λ list. items list ≡ []) }
         ensures room { IfOk result (λ list. count ≤ capacity list) };
 
-    /// Takes all nodes out. Their room is kept.
+    /// Takes all nodes out. Their room stays.
     fn empty(&mut self)
         ensures items { items self.new ≡ [] }
         ensures room { capacity self.old ≤ capacity self.new };
@@ -53,8 +53,8 @@ pub trait NodeList: Drop {
         ensures items { items self.new ≡ items self.old ++ node ∷ [] }
         ensures room { capacity self.old ≤ capacity self.new };
 
-    /// Lets go of the first so many nodes, or of fewer, and says of how many. Their room is kept,
-    /// and no memory is taken.
+    /// Lets go of the first so many nodes, or of fewer, and says of how many. Their room stays, and
+    /// no memory is taken.
     fn forget(&mut self, count: usize) -> usize
         requires { count ≤ length (items self.old) }
         ensures few { result ≤ count }
@@ -123,9 +123,9 @@ impl NodeList for Vec<u64> {
     }
 }
 
-/// A list of 4 bytes a node that lets go of what it is told to forget.
+/// A list of 4 bytes a node that lets go of what it is asked to forget.
 ///
-/// A block with such a list keeps the nodes that were decided at its wave and at the one before,
+/// A block with such a list retains the nodes that were decided at its wave and at the one before,
 /// and no earlier ones, so few of its places are ever used.
 #[derive(Drop)]
 pub struct Recent {

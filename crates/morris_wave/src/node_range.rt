@@ -1,4 +1,4 @@
-//! A stretch of nodes of a graph, which goes from wave to wave.
+//! A range of nodes of a graph, which goes from wave to wave.
 ghost use Rattle.std.specs.Prelude.{◌≡◌, ℕ, ◌+◌, ◌-◌, ◌<◌, ◌≤◌, ◌&&◌, ◌==◌, false, not, nat_le, [], length, slice_index, slice_set};
 ghost use Rattle.std.specs.List.{All, list_any};
 ghost use Rattle.morris_wave.specs.Nets.{times};

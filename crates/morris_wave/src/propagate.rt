@@ -83,8 +83,8 @@ pub(crate) fn take_in<L: NodeList, B: NodeList>(
     }
 }
 
-// Takes in nodes whose exits come due at the wave, a piece at a time. In `piece` there is room for
-// so many.
+// Takes in nodes whose exits come due at the wave, a chunk at a time, for which there is room in
+// `piece`.
 pub(crate) fn take_in_due<L: NodeList>(
     entries: &mut Listed<L>,
     counters: &mut Counters,

@@ -1,4 +1,4 @@
-//! The first entries of a stretch of nodes, what they wait for, and when their exits come due, read
+//! The first entries of a range of nodes, what they wait for, and when their exits come due, read
 //! from the graph.
 ghost use Rattle.std.specs.Prelude.{◌≡◌, ◌+◌, ◌-◌, ◌%◌, ◌<◌, ◌≤◌, ◌^◌, ◌&&◌, ◌==◌, true, max, length, slice_index, slice_set, IsSome, IfOk, IfSome, vec_len};
 ghost use Rattle.morris_wave.specs.Exits.{exits_won, last_due_of};
@@ -17,11 +17,11 @@ use crate::node_list::NodeList;
 use crate::node_range::NodeRange;
 use std::alloc::{AllocError, Global};
 
-// So many nodes are read at a time, so that nothing that was read stays with its node. A graph may
-// keep something while it reads nodes that follow one another, and so many share that.
+// So many nodes are read at a time, so that nothing that was read is stored for long. A graph may
+// cache something while it reads nodes that follow one another, and over so many that pays.
 const PIECE: usize = 16384;
 
-// What is known of a stretch while its nodes are read.
+// What is known of a range while its nodes are read.
 #[derive(Drop)]
 struct Reading<L: NodeList, C: CounterList> {
     entries: Listed<L>,
@@ -43,8 +43,8 @@ impl<L: NodeList, C: CounterList> Reading<L, C> {
         ensures read { IfOk result (λ r. (g : Net) → HasRead g C.most first 0
             r.entries.codes (C.counts r.counters) r.waves.items r.last_due) }
     {
-        // The waves are asked for first. They are let go once the stretch is read, and those of the
-        // next stretch take their place. Otherwise their place would go to room that isn't filled,
+        // The waves are asked for first. They are let go once the range is read, and those of the
+        // next range take their place. Otherwise their place would go to room that isn't filled,
         // and its pages would be in use for nothing.
         let waves = vec![in alloc; 0u16; count]?;
         let entries = Listed::open(alloc, first, count)?;
@@ -118,8 +118,8 @@ fn read_piece<G: Graph, L: NodeList, C: CounterList>(
     true
 }
 
-// Reads all nodes, a piece at a time, unless the counters are for nodes of fewer quiet results. In
-// `counts` and `exits` there is room for a piece. Says whether all of them were read.
+// Reads all nodes, a chunk at a time, unless the counters are for nodes of fewer quiet results. In
+// `counts` and `exits` there is room for a chunk. Says whether all of them were read.
 fn read_all<G: Graph, L: NodeList, C: CounterList>(
     graph: &G,
     reading: &mut Reading<L, C>,

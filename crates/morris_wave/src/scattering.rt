@@ -63,8 +63,8 @@ fn deal<L: NodeList>(lists: &mut Vec<L>, finder: &Finder, nodes: &[u64]) -> Resu
     Ok(())
 }
 
-// Puts the nodes that lead to one of these, each as often as it leads there, into the empty lists
-// of their blocks.
+// Puts the predecessors of these nodes, each as often as it leads to one of them, into the empty
+// lists of their blocks.
 fn deal_behind<G: Graph, L: NodeList>(
     alloc: Global,
     graph: &G,

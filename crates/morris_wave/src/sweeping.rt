@@ -33,10 +33,10 @@ impl From<AllocError> for SweepFault {
     }
 }
 
-// The last wave that an entry of 16 bits can tell of.
+// The last wave whose nodes have codes of 16 bits.
 const LAST_WAVE: u16 = 65534;
 
-// Goes back from each fresh node of the wave, and takes in what leads there.
+// Goes back from each fresh node of the wave, and takes in its predecessors.
 fn spread<G: Graph, L: NodeList>(
     graph: &G,
     whole: &mut NodeRange<L>,
@@ -53,8 +53,8 @@ fn spread<G: Graph, L: NodeList>(
     Ok(())
 }
 
-// Goes from wave to wave until nothing more is to come, and says whether it got so far. The watch
-// is told of each wave before it begins.
+// Goes from wave to wave until nothing more is to come, and says whether it got so far. Each wave
+// is reported to the watch before it begins.
 fn run<G: Graph, L: NodeList, W: Watch>(
     alloc: Global,
     graph: &G,
@@ -129,19 +129,19 @@ pub fn sweep<G: Graph>(alloc: Global, graph: &G) -> Result<Vec<u16>, SweepFault>
     ensures too_deep { result ≡ Err SweepFault.TooDeep → IsTooDeep (G.Name.net (G.level graph.now)) }
     // A code is counted in plies as the rules of the game do.
     ensures plies { PlyRules (G.Name.net (G.level graph.now)) }
-    // And it tells who wins: codes of lost nodes are odd, those of won nodes even.
+    // And it says who wins: codes of lost nodes are odd, those of won nodes even.
     ensures outcome { CodeRules (G.Name.net (G.level graph.now)) }
 {
     sweep_watched(alloc, graph, &mut NoProgress)
 }
 
-/// [`sweep`], which tells `watch` of each wave as it begins: of waves 1, 2, .. and of no wave where
+/// [`sweep`], which reports each wave to `watch` as it begins: waves 1, 2, .. and none where
 /// nothing is to come before the first one. Wave `n` goes back from the nodes of depth `n - 1`.
 ///
 /// # Errors
 ///
-/// Those of [`sweep`]. Where memory is refused as the graph is read, the watch is told nothing. A
-/// wave that was told may still be refused.
+/// Those of [`sweep`]. Where memory is refused as the graph is read, no wave is reported. A wave
+/// that was reported may still end in an error.
 pub fn sweep_watched<G: Graph, W: Watch>(
     alloc: Global,
     graph: &G,
@@ -155,7 +155,7 @@ pub fn sweep_watched<G: Graph, W: Watch>(
     // The rules of [`sweep`].
     ensures plies { PlyRules (G.Name.net (G.level graph.now)) }
     ensures outcome { CodeRules (G.Name.net (G.level graph.now)) }
-    // The watch is as it may be after it was told, whatever the answer.
+    // The watch is as it may be after reports, whatever the answer.
     ensures watched { W.becomes watch.old watch.new }
 {
     let mut whole: NodeRange<Vec<u64>> = NodeRange::read(alloc, graph, 0, graph.size())?;

@@ -1,17 +1,17 @@
-//! Who is told how far a solver, a sweep or whoever goes through entries is.
+//! How progress is reported.
 ghost use Rattle.std.specs.Prelude.{◌≡◌};
 
-/// Is told how far a solver, a sweep or whoever goes through the entries of a table is, on the
-/// thread that called it.
+/// Receives the progress of a solver, a sweep or whoever goes through the entries of a table, on
+/// the thread that called it.
 ///
-/// A solver by workers tells of a wave between two waves: no worker runs then, and no block is
+/// A solver by workers reports a wave between two waves: no worker runs then, and no block is
 /// locked.
 pub trait Watch {
-    // What the watch may be after it was told any number of times.
+    // What the watch may be after any number of reports.
     ghost becomes: { Self → Self → Type 0 };
 
-    /// The wave of this number begins. Waves are counted from 1, and each is told once, in their
-    /// order.
+    /// The wave of this number begins. Waves are counted from 1, and each is reported once, in
+    /// their order.
     fn wave(&mut self, wave: u16)
         ensures { becomes self.old self.new };
 
@@ -19,14 +19,14 @@ pub trait Watch {
     fn entries(&mut self, done: u64)
         ensures { becomes self.old self.new };
 
-    // Where it is told nothing it is what it was.
+    // Without a report it is what it was.
     ghost stays: { (watch : Self) → becomes watch watch };
 
-    // What it may be after it was told, and then told again, it may be after both.
+    // What it may be after some reports and then after others, it may be after all of them.
     ghost joins: { (first then last : Self) → becomes first then → becomes then last → becomes first last };
 }
 
-/// A watch for work of which nobody is told anything.
+/// No progress: a watch that does nothing.
 #[derive(Clone, Copy)]
 pub struct NoProgress;
 

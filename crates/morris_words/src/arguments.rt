@@ -1,4 +1,4 @@
-//! The words of the command line, and the request that they make.
+//! The command line's arguments, and the request that they make.
 ghost use Rattle.std.specs.Prelude.{◌≡◌, List, ℕ, ◌<◌, ◌≤◌, ◌^◌, [], IfErr, IfOk, OnOk, Some, codes, is_some, map, option_map, true, unwrap_or};
 ghost use Rattle.clap.specs.Takes.{is_given};
 ghost use Rattle.clap.specs.Values.{bool_text};
@@ -18,23 +18,23 @@ use clap::{Arg, ArgAction, ArgMatches, Command, Error, value_parser};
 use std::alloc::{AllocError, Global};
 use std::convert::AsStr;
 
-/// Why the words make no request.
+/// Why the arguments make no request.
 #[derive(Drop)]
 pub enum Refusal {
     /// Memory ran out.
     Memory,
-    /// Help was asked for: its text, for standard output.
+    /// Help was asked for: this text, for standard output.
     Help(String),
-    /// The version was asked for: its text, for standard output.
+    /// The version was asked for: this text, for standard output.
     Version(String),
-    /// The words were refused: what is wrong with them, for standard error.
+    /// The arguments were refused: what is wrong with them, for standard error.
     Wrong(String),
 }
 
-/// Reads the words, of which the first is the program's own name. `Memory` is answered only where
-/// an allocation was refused, `Help` to `--help`, `-h` and `help`, `Version` to `--version` and
-/// `-V` in place of a command, and `Wrong` where the words name no command, or not the arguments
-/// that it takes, or two of them that exclude each other.
+/// Reads the arguments, of which the first is the program's own name. It answers `Memory` only
+/// where an allocation was refused; `Help` to `--help`, `-h` and `help`; `Version` to `--version`
+/// and `-V` in place of a command; and `Wrong` where the arguments name no command, don't fit the
+/// one that they name, or have two that exclude each other.
 pub fn read_arguments<'a, S: AsStr>(
     alloc: Global,
     arguments: &'a [S],
@@ -103,16 +103,16 @@ const COUNT_HELP: &str = "Show how many positions there are, and nothing else";
 
 const POSITIONS_HELP: &str = "The positions, or else one on each line of standard input";
 
-// How `clap` ends what it says of a mistake.
+// How `clap` ends its message about a mistake.
 const MORE_HELP: &str = "\n\nFor more information, try '--help'.\n";
 
-// How many workers `stats`, `build` and `verify` have, and how many blocks the first two have,
-// where they are left out.
+// The default numbers of workers (of `stats`, `build` and `verify`) and of blocks (of the first
+// two).
 const DEFAULT_WORKERS: &str = "2";
 
 const DEFAULT_BLOCKS: &str = "16";
 
-// The program, with its commands: each is one `with_command` here, and one arm of `request_named`.
+// The program with its commands: each is one `with_command` here, and one arm of `request_named`.
 fn morris_command<'a>(alloc: Global) -> Result<Command<'a>, AllocError>
     ensures { IfOk result (λ c. app_of c ≡ morris_app) }
 {
@@ -539,7 +539,8 @@ fn find_request<'a>(alloc: Global, found: &ArgMatches<'a>) -> Result<Request<'a>
     })
 }
 
-/// What `lookup` is to show; or one of its flags, and which other doesn't go or is missing with it.
+/// What `lookup` is to show; or one of its flags, with the other one that excludes it or that it
+/// needs.
 fn show_asked(found: &ArgMatches<'_>) -> Result<Show, (&'static str, &'static str)>
     requires { HasValues lookup_rules (rows_of (found_of found.now)) }
     ensures show { IfOk result (IsShown (rows_of (found_of found.now))) }
@@ -559,7 +560,7 @@ fn show_asked(found: &ArgMatches<'_>) -> Result<Show, (&'static str, &'static st
     }
 }
 
-/// The text of an argument that has to be given.
+/// The value of an argument that has to be given.
 fn given<'a>(found: &ArgMatches<'a>, name: &str) -> &'a str
     requires { is_some (first_of name.now (rows_of (found_of found.now))) ≡ true }
     ensures { first_of name.now (rows_of (found_of found.now)) ≡ Some result.now }
@@ -570,7 +571,7 @@ fn given<'a>(found: &ArgMatches<'a>, name: &str) -> &'a str
     text
 }
 
-/// The text of an option, where it was given.
+/// The value of an option, where it was given.
 fn optional<'a>(found: &ArgMatches<'a>, name: &str) -> Option<&'a str>
     requires { HasOption name.now (rows_of (found_of found.now)) }
     ensures { IsOption name.now (rows_of (found_of found.now)) result }
@@ -578,7 +579,7 @@ fn optional<'a>(found: &ArgMatches<'a>, name: &str) -> Option<&'a str>
     found.get_str(name)
 }
 
-/// Whether the words gave an argument, which may have another value where they didn't.
+/// Whether an argument was given: one that wasn't may still have a default value.
 fn was_given(found: &ArgMatches<'_>, name: &str) -> bool
     ensures { result ≡ is_given name.now (rows_of (found_of found.now)) }
 {
@@ -589,7 +590,7 @@ fn was_given(found: &ArgMatches<'_>, name: &str) -> bool
     }
 }
 
-/// How many positions there are to be at most, where the words say so.
+/// The most positions to show, where a limit was given.
 fn limit_of(found: &ArgMatches<'_>) -> Option<u32>
     requires { HasNumberIfGiven (codes "limit") 1 4294967295 (rows_of (found_of found.now)) }
     ensures { IsLimit (rows_of (found_of found.now)) result }
@@ -597,7 +598,7 @@ fn limit_of(found: &ArgMatches<'_>) -> Option<u32>
     found.get_one::<u32>("limit")
 }
 
-/// The texts of an argument that may be given several times, in order.
+/// The values of an argument that may be given several times, in order.
 fn all_given<'a>(
     alloc: Global,
     found: &ArgMatches<'a>,
@@ -611,7 +612,7 @@ fn all_given<'a>(
     }
 }
 
-/// The number of an argument that stands for one where it is left out.
+/// The number that an argument gives, or its default.
 fn number(found: &ArgMatches<'_>, name: &str) -> u16
     requires { (low : ℕ) × (high : ℕ) × (high < 2 ^ 16) × HasNumber name.now low high (rows_of (found_of found.now)) }
     ensures value { option_map number_of (one_of name.now (rows_of (found_of found.now))) ≡ Some result }
@@ -631,7 +632,7 @@ fn flag(found: &ArgMatches<'_>, name: &str) -> bool
     found.get_flag(name)
 }
 
-/// Why arguments that don't go together are refused: one of them, and with or without which other.
+/// The refusal of arguments that don't go together: `one` excludes `other`, or needs it.
 fn clash(alloc: Global, one: &str, other: &str) -> Refusal
     ensures { IsAnswerTo ArgumentConflict result }
 {

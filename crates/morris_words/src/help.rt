@@ -1,8 +1,8 @@
-//! What the help says below the arguments: what the words mean, the exit statuses and an example.
-//! The lines are at most 80 characters wide.
+//! What the help says below the arguments: what they mean, the exit statuses and an example. The
+//! lines are at most 80 characters wide.
 
-/// A page of help: texts, one after the other, and by their names paragraphs that several pages
-/// have. It begins with `[]`, where the texts are gathered.
+/// A page of help: strings, one after the other, and by their names paragraphs that several pages
+/// have. It begins with `[]`, where the strings are gathered.
 macro_rules! page {
     ([$($text:literal)*]) => { concat!($($text),*) };
     ([$($text:literal)*] $next:literal $($rest:tt)*) => { page!([$($text)* $next] $($rest)*) };

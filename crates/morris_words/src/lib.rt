@@ -1,5 +1,8 @@
-//! The words of the command line: what each command takes, the request that the words make, and
-//! the text of the help.
+//! The command line: which arguments each command takes, the request that they make, and the help.
+//!
+//! - `arguments`: reads the arguments
+//! - `request`: what they ask for
+//! - `help`: what the help says below the arguments
 #![tactic(auto)]
 
 pub mod arguments;

@@ -1,16 +1,16 @@
-//! What the words of the command line ask for.
+//! What the command line asks for.
 
-/// What the words ask the program for.
+/// What the arguments ask of the program.
 #[derive(Drop)]
 pub struct Request<'a> {
     /// What it is to do.
     pub task: Task<'a>,
-    /// Whether it is to tell on standard error how far it is, which `look`, `lookup` and `find`
-    /// never are.
+    /// Whether it is to report its progress on standard error, which `look`, `lookup` and `find`
+    /// never do.
     pub progress: bool,
 }
 
-/// What the words ask the program to do: a command, with what its words say.
+/// A command, with the values of its arguments.
 #[derive(Drop)]
 pub enum Task<'a> {
     Look(Look<'a>),
@@ -22,12 +22,12 @@ pub enum Task<'a> {
     Find(Find<'a>),
 }
 
-/// Show a position: its legal moves, and its value as far as some plies tell.
+/// Show a position: its legal moves, and its value as far as a search of some plies finds it.
 #[derive(Clone, Copy)]
 pub struct Look<'a> {
     /// The name of the board.
     pub board: &'a str,
-    /// The text that writes the position.
+    /// The position string.
     pub text: &'a str,
     /// How many plies, 0 to 6.
     pub depth: u8,
@@ -38,7 +38,7 @@ pub struct Look<'a> {
 pub struct Stats<'a> {
     /// The name of the board.
     pub board: &'a str,
-    /// The text that names the pair.
+    /// The pair, such as `4-3`.
     pub pair: &'a str,
     /// Whether the tables have an entry for each class of positions.
     pub classes: bool,
@@ -46,7 +46,7 @@ pub struct Stats<'a> {
     pub workers: u8,
     /// Over how many blocks, 1 to 1,024.
     pub blocks: u16,
-    /// Whether the deepest positions are shown as well.
+    /// Whether the deepest positions are shown too.
     pub deepest: bool,
     /// The folder whose file of the pair states the values, where there is one; `classes` and
     /// `deepest` are then false.
@@ -60,7 +60,7 @@ pub struct Stats<'a> {
 pub struct Build<'a> {
     /// The name of the board.
     pub board: &'a str,
-    /// The text that names the pair.
+    /// The pair, such as `4-3`.
     pub pair: &'a str,
     /// How many workers build, 1 to 64.
     pub workers: u8,
@@ -75,7 +75,7 @@ pub struct Build<'a> {
     pub classes: bool,
 }
 
-/// Verify table files: the one on the input, if nothing else is said.
+/// Verify table files: the one on the input, unless `all` or `from` says otherwise.
 #[derive(Clone, Copy)]
 pub struct Verify<'a> {
     /// The name of the board.
@@ -94,7 +94,7 @@ pub struct Verify<'a> {
 pub struct Probe<'a> {
     /// The name of the board.
     pub board: &'a str,
-    /// The text that writes the position.
+    /// The position string.
     pub text: &'a str,
 }
 
@@ -107,7 +107,7 @@ pub struct Lookup<'a> {
     pub from: &'a str,
     /// What is shown of each position.
     pub show: Show,
-    /// The texts that write the positions; where there are none, the lines of the input do.
+    /// The position strings; where there are none, the lines of the input are.
     pub strings: Vec<&'a str>,
 }
 
@@ -116,17 +116,17 @@ pub struct Lookup<'a> {
 pub struct Find<'a> {
     /// The name of the board.
     pub board: &'a str,
-    /// The text that names the pair.
+    /// The pair, such as `4-3`.
     pub pair: &'a str,
-    /// The text that says which value.
+    /// The value, such as `won in 3`.
     pub value: &'a str,
     /// The folder.
     pub from: &'a str,
-    /// Whether each position that shares an entry is shown.
+    /// Whether every position of an entry's orbit is shown, and not one of them alone.
     pub all: bool,
-    /// How many positions are shown at most, where that is said.
+    /// The most positions to show, where there is a limit.
     pub limit: Option<u32>,
-    /// Whether it is only shown how many there are; there is then no `limit`.
+    /// Whether only their number is shown; there is then no `limit`.
     pub count: bool,
 }
 

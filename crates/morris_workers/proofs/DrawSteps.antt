@@ -1,4 +1,4 @@
--- A draw keeps the rule of the counter.
+-- A draw preserves the rule of the counter.
 use Rattle.std.proofs.Common.{◌≡◌, ℕ, ◌+◌, ◌%◌, ◌<◌, ◌≤◌, ◌==◌, ◌||◌, true, false, cond, eqb, if◌then◌else◌, nat_lt, min, List, [], ◌∷◌, ◌++◌, length, length-append, set, slice_index, sym, refl, ap, subst, ◌∙◌, ⊎_elim, arith, get_or-set_same, length-set}
 use Rattle.std.specs.List.{sum_by}
 use Rattle.std.proofs.lemmas.Bool.{cases_lt, lt-ltb, le-ltb, cond-true, cond-false, false≢true}
@@ -97,7 +97,7 @@ module _ (p : Plan) (s : State (Unit {0}) View) (kept : IsTicketRule p s) where
         (λ e. omega arith)
         (omega (arith, kept.passed, done_none v ready stands))
 
--- the same as the step of the table asks for it
+-- the same as the table wants it of a step
 module _ (p : Plan) (s : State (Unit {0}) View) (seat : ℕ) (me : Me (Unit {0}) View) (there : get_elem? s.views seat ≡ some me.0) (raised : ℕ) where
   abbrev found : ℕ
   found = slice_index s.words 0
@@ -122,7 +122,7 @@ module _ (p : Plan) (s : State (Unit {0}) View) (seat : ℕ) (me : Me (Unit {0})
       (missed p s kept seat me.0 there stands ready (omega arith)))
       (cases_lt found me.0.limit)
 
--- Whatever the counter is when the word is raised by 1, the draw keeps its rule.
+-- Whatever the counter is when the word is raised by 1, the draw preserves its rule.
 pub draws : (p : Plan) (slots seat : ℕ) (me : Me (Unit {0}) View) → me.0.ended ≡ false → 0 < me.0.stands
     → Allows (IsTicketRule p) slots seat me 0 (λ n. (n + 1) % 18446744073709551616) (λ n after. Drew me n after)
 draws p slots seat me ready stands = λ s kept homes there room.

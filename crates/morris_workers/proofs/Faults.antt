@@ -1,4 +1,4 @@
--- What the faults of a solver tell: where blocks aren't gathered, the block that counts as missing
+-- What the faults of a solver say: where blocks aren't gathered, the block that counts as missing
 -- is one of them.
 use Rattle.std.proofs.Common.{Result, Ok, Err, IfErr, ◌≡◌, ℕ, ◌+◌, ◌<◌, ◌≤◌, Bool, true, false, ◌&&◌, cond, eqb, List, [], ◌∷◌, ◌++◌, Option, Some, None, length, refl, sym, subst, arith, length-append}
 use Rattle.std.specs.List.{All}
@@ -61,7 +61,7 @@ gather_tells g level wave cut blocks f count numbers h =
     (either_way g (length blocks) (first_complaint level wave cut [] blocks) cut blocks f (sym count)
     (walked g (length blocks) level wave cut [] blocks (omega arith) numbers) h)
 
--- what a fault tells once the numbers are in range is why a solver refuses
+-- what a fault says once the numbers are in range is why a solver refuses
 pub late_refusal : {A : Type 0} (g : Net) (workers blocks : ℕ) (answer : Result A SolveFault) → range_fault workers blocks ≡ None
     → IfErr answer (Tells g blocks) → IfErr answer (IsRefusal g workers blocks)
 late_refusal g workers blocks (Ok x) range h = tt
@@ -71,7 +71,7 @@ late_refusal g workers blocks (Err solve.Memory) range h = range
 late_refusal g workers blocks (Err (solve.Missing number)) range h = (range, h)
 late_refusal g workers blocks (Err solve.TooDeep) range h = (range, h)
 
--- why blocks aren't made is among what a fault tells
+-- why blocks aren't made is among what a fault says
 pub making_tells : (g : Net) (blocks : ℕ) (fault : SolveFault) → IsMakingFault g fault → Tells g blocks fault
 making_tells g blocks solve.Workers h = absurd h
 making_tells g blocks solve.Blocks h = absurd h

@@ -1,4 +1,4 @@
--- A seat that is joined to another keeps the rule of the counter.
+-- Joining a seat to another preserves the rule of the counter.
 use Rattle.std.proofs.Common.{◌≡◌, ℕ, ◌+◌, ◌<◌, ◌≤◌, ◌==◌, ◌||◌, Bool, true, false, if◌then◌else◌, cond, List, ◌++◌, length, length-append, set, length-set, sym, ap, ◌∙◌, ⊎_elim, arith}
 use Rattle.std.specs.List.{sum_by}
 use Rattle.std.proofs.lemmas.Bool.{false≢true, or_cases}

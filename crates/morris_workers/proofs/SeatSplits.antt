@@ -1,4 +1,4 @@
--- A seat split off the first one keeps the rule of the counter.
+-- Splitting a seat off the first one preserves the rule of the counter.
 use Rattle.std.proofs.Common.{◌≡◌, ℕ, ◌+◌, ◌<◌, List, [], ◌∷◌, ◌++◌, length, length-append, set, length-set, sym, ap, ◌∙◌, ⊎_elim, arith}
 use Rattle.std.specs.List.{sum_by}
 use Rattle.std.proofs.lemmas.Bool.{false≢true}

@@ -32,7 +32,7 @@ pub record IsTicketRule (p : Plan) (s : State (Unit {0}) View) : Type 0 where
   pub seats : sum_by (λ v. 1 + v.splits) s.views ≡ p.seats
   -- a view stands for one seat, and for each that was joined to it one more
   pub stands : sum_by (λ v. v.stands) s.views ≡ length s.views
-  -- a seat that was joined to another has an empty list, and each other one carries the limit
+  -- a seat that was joined to another has an empty list, and each other one has the limit
   pub spent : (seat : ℕ) (v : View) → get_elem? s.views seat ≡ some v → v.stands ≡ 0 → v.drawn ≡ []
   pub limits : (seat : ℕ) (v : View) → get_elem? s.views seat ≡ some v → 0 < v.stands → v.limit ≡ p.limit
 
@@ -57,7 +57,7 @@ ended_view v = record { limit = v.limit; drawn = v.drawn; splits = v.splits; end
 abbrev pub drawing : View → ℕ → View
 drawing v n = if nat_lt n v.limit then with_number v n else ended_view v
 
--- what a draw that found n tells
+-- what is known after a draw that found n
 pub record Drew (before : Me (Unit {0}) View) (n : ℕ) (after : Me (Unit {0}) View) : Type 0 where
   pub view : after.0 ≡ drawing before.0 n
   pub slots : after.1 ≡ before.1

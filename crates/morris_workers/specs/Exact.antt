@@ -11,8 +11,8 @@ use Rattle.morris_wave.specs.Blocks.{BlockState, IsIn, in_applied, entries_of, c
 abbrev pub entry_of : Net → BlockState → ℕ → ℕ
 entry_of g s i = entry_at g s.wave (in_applied s) i
 
--- A block tells the truth at its wave, with the sources that are applied. That is a law of what
--- entries are, and so of every state; that a block answers just these entries is its own contract.
+-- A block is right at its wave, with the sources that are applied. That is a law of what entries
+-- are, and so of every state; that a block answers just these entries is its own contract.
 pub record IsExact (g : Net) (s : BlockState) : Type 0 where
   -- an entry that is there is the node's code: who wins, and in how many plies exactly
   pub code : (i : ℕ) → IsIn s.cut s.number i → 0 < entry_of g s i → HasCode g i (entry_of g s i)

@@ -1,4 +1,4 @@
--- How many workers and blocks there may be, and what a fault tells.
+-- How many workers and blocks there may be, and what a fault says.
 use Rattle.std.specs.Prelude.{ℕ, ◌<◌, ◌||◌, ◌==◌, nat_lt, Option, Some, None, if◌then◌else◌}
 use Rattle.morris_wave.specs.Nets.{Net}
 use Rattle.morris_wave.specs.Values.{IsTooDeep}
@@ -14,7 +14,7 @@ range_fault workers blocks =
     then Some Workers
     else (if (blocks == 0) || nat_lt 1024 blocks then Some Blocks else None)
 
--- What a fault tells that comes once the numbers are in range: the block that is missing is one of
+-- What a fault says that comes once the numbers are in range: the block that is missing is one of
 -- the blocks, and where it says that the graph is too deep, it is.
 abbrev pub Tells : Net → ℕ → SolveFault → Type 0
 Tells g blocks Workers = ⊥

@@ -4,7 +4,7 @@
 use atomic_table::{Join, Play, Split, TableRule};
 use std::collections::LinkedList;
 
-/// What the counter is told when it is made.
+/// What the counter is made with.
 #[derive(Clone, Copy)]
 pub(crate) struct Plan {
     pub(crate) limit: u64,

@@ -5,7 +5,7 @@ use morris_wave::GatherFault;
 use std::alloc::AllocError;
 use thiserror::Error;
 
-// The last wave that an entry of 16 bits can tell of.
+// The last wave whose nodes have codes of 16 bits.
 pub(crate) const LAST_WAVE: u16 = 65534;
 
 /// Why a graph wasn't solved.

@@ -13,8 +13,8 @@ use std::thread;
 use std::thread::Threads;
 
 // The blocks of the numbers that a worker draws until none is left. An exit that comes due after
-// the last wave shows at once that the graph is too deep. After each block the watch is told that
-// no entry is done yet, so that it hears of the work.
+// the last wave shows at once that the graph is too deep. After each block the watch gets a report
+// that no entry is done yet, so that it can show that work goes on.
 fn make_drawn<L: NodeList, G: Graph, W: Watch>(
     alloc: Global,
     graph: &G,
@@ -54,7 +54,7 @@ fn both<T: Drop>(
 
 // Has workers with these seats make their blocks, each in a thread of its own where one can be
 // started. This thread starts them one after the other, for the reason of the waves' workers. The
-// first one is at work in this thread, and tells the watch.
+// first one is at work in this thread, and reports to the watch.
 #[cycle(making)]
 fn make_all<L: NodeList + Send, G: Graph + Sync, R: Threads + Sync, W: Watch>(
     rt: &R,
@@ -102,7 +102,7 @@ fn sort<N: Levels, L: NodeList>(blocks: &mut Vec<Block<N, L>>)
 /// The blocks of a cut, in the order of their numbers, with lists of the kind `L`. There is a
 /// worker for each share. The workers draw the numbers of the blocks that they make until none is
 /// left, so that they end at about the same time however much a block costs. After each block that
-/// this thread makes the watch is told that no entry is done.
+/// this thread makes it reports to the watch that no entry is done.
 ///
 /// # Errors
 ///

@@ -83,8 +83,8 @@ fn codes_of<N: Levels, L: NodeList>(
     Ok(gather_from(alloc, level, wave, cut, blocks)?)
 }
 
-// The codes of all nodes, by a worker for each share of the blocks of a cut. Blocks keep and
-// batches carry lists of the kind `L`.
+// The codes of all nodes, by a worker for each share of the blocks of a cut. Blocks and batches
+// have lists of the kind `L`.
 fn solve_as<
     L: NodeList + Send + Sync,
     G: Graph + Sync,
@@ -136,17 +136,17 @@ fn solve_as<
 /// asked. Then they draw the numbers of the blocks for one wave after the other and ask the gate
 /// after each draw (see [`Gate`]). A worker that drew for a wave waits until that wave begins,
 /// which it does once all blocks of the wave before are sent from and not all of them are settled.
-/// A worker that is told to leave ends, and its number stays undone; then no later wave begins. A
-/// graph whose blocks are settled before the first wave is answered without any wave. A worker
+/// A worker that the gate sends away ends, and its number stays undone; then no later wave begins.
+/// A graph whose blocks are settled before the first wave is answered without any wave. A worker
 /// holds one lock at a time, and none while it looks at the graph or waits for a wave.
 ///
 /// The blocks take what [`Block`] says, with lists of 4 bytes a node that let go of the waves past
-/// ([`Recent`]), or of 8 that keep all in a graph of more than [`SHORT_NODES`]. Each worker takes
+/// ([`Recent`]), or of 8 that retain all in a graph of more than [`SHORT_NODES`]. Each worker takes
 /// the fresh nodes of one block at a time, of 8 bytes each, and goes back from [`PIECE_NODES`] of
 /// them at a time: the batches are of as many bytes as the lists for each node that leads to one of
-/// these. A worker keeps lists that it sent, of up to 512 KiB together, for those of the next
-/// pieces. At the end these are let go, and then the answer takes 2 bytes a node, while the blocks
-/// are let go one after the other.
+/// these. Of the lists that it sent a worker sets some aside, of up to 512 KiB together, and uses
+/// them for the next pieces. At the end these are let go, and then the answer takes 2 bytes a node,
+/// while the blocks are let go one after the other.
 ///
 /// [`PIECE_NODES`]: crate::PIECE_NODES
 ///
@@ -169,7 +169,7 @@ pub fn solve<G: Graph + Send + Sync, A: Gate, R: Threads + Wait + Sync>(
     ensures refused { IfErr result (IsRefusal (G.Name.net (G.level graph.now)) workers blocks) }
     // A code is counted in plies as the rules of the game do.
     ensures plies { PlyRules (G.Name.net (G.level graph.now)) }
-    // And it tells who wins: codes of lost nodes are odd, those of won nodes even.
+    // And it says who wins: codes of lost nodes are odd, those of won nodes even.
     ensures outcome { CodeRules (G.Name.net (G.level graph.now)) }
 {
     let watch = &mut NoProgress;
@@ -177,15 +177,15 @@ pub fn solve<G: Graph + Send + Sync, A: Gate, R: Threads + Wait + Sync>(
 }
 
 /// [`solve`], with lists of 4 bytes a node where the graph has at most `short` nodes, up to
-/// [`SHORT_NODES`], and of 8 otherwise. On this thread it tells `watch` of each wave once it has
-/// begun, in their order (see [`Watch`]): of waves 1, 2, .. and of no wave where the blocks are
-/// settled before the first one. Before the waves it tells that no entry is done, after each block
-/// that this thread made.
+/// [`SHORT_NODES`], and of 8 otherwise. On this thread it reports each wave to `watch` once it has
+/// begun (see [`Watch`]): waves 1, 2, .. in their order, and none where the blocks are settled
+/// before the first one. Before the waves it reports that no entry is done, after each block that
+/// this thread made.
 ///
 /// # Errors
 ///
-/// Those of [`solve`]. Where numbers are out of range the watch is told nothing, and of no wave
-/// where the blocks aren't made. A wave that was told may still be refused.
+/// Those of [`solve`]. Where numbers are out of range nothing is reported, and no wave where the
+/// blocks aren't made. A wave that was reported may still end in an error.
 pub fn solve_with<G: Graph + Send + Sync, A: Gate, R: Threads + Wait + Sync, W: Watch>(
     rt: &R,
     alloc: Global,
@@ -204,7 +204,7 @@ pub fn solve_with<G: Graph + Send + Sync, A: Gate, R: Threads + Wait + Sync, W: 
     // The rules of [`solve`].
     ensures plies { PlyRules (G.Name.net (G.level graph.now)) }
     ensures outcome { CodeRules (G.Name.net (G.level graph.now)) }
-    // The watch is as it may be after it was told, whatever the answer.
+    // The watch is as it may be after reports, whatever the answer.
     ensures watched { W.becomes watch.old watch.new }
 {
     check_numbers(workers, blocks)?;

@@ -123,7 +123,7 @@ impl Tickets {
         }
     }
 
-    /// Ends the drawing, and tells how many numbers were drawn and how many of them by the seats
+    /// Ends the drawing, and answers how many numbers were drawn and how many of them by the seats
     /// given back. Condition: at least one seat, each of these tickets. The seats' lists have no
     /// number twice, within one list or across two, and all are below `handed`. Where as many seats
     /// are given back as were made, `handed` is `held`; where the two are equal, the lists have
@@ -193,7 +193,7 @@ impl Tickets {
         self.table.shared.join_seat::<Gathering>(all, other);
     }
 
-    // Takes the counter apart, with a seat, and tells how many numbers were drawn.
+    // Takes the counter apart, with a seat, and answers how many numbers were drawn.
     fn count(self, seat: Seat<(), View>) -> u64
         requires { seat.table_id ≡ self.table.shared.table_id }
         ensures { Counted (limit_of self) (seats_of self) seat.me.0 result }

@@ -34,8 +34,8 @@ const FULL_PIECES: usize = 16;
 // One counter has at most so many numbers: those of the blocks for at least 976 waves.
 const MOST_NUMBERS: u64 = 1000000;
 
-/// What the workers of a graph share. Each has a share of the blocks, which it is the first to go
-/// to. Blocks keep and batches carry lists of the kind `L`.
+/// What all workers of a graph use. Each has a share of the blocks, which it is the first to go to.
+/// Blocks and batches have lists of the kind `L`.
 #[derive(Drop)]
 pub(crate) struct Site<'a, L: NodeList, G: Graph, A, R> {
     pub(crate) rt: &'a R,
@@ -75,7 +75,7 @@ impl<N: Levels, L: NodeList> Outbox<N, L> {
         }
     }
 
-    // Forgets what was sent, and keeps the lists.
+    // Forgets what was sent, and sets the lists aside.
     fn empty(&mut self) -> Result<(), AllocError> {
         self.fresh = 0;
         let mut room = room_of(&self.spare);
@@ -106,7 +106,7 @@ fn room_of<L: NodeList>(lists: &[L]) -> usize {
 }
 
 // Puts lists of batches that were sent aside for later ones, beside others that have so much room.
-// What goes past the room to be kept is let go. Answers the room of all that are aside.
+// What would take more than `SPARE_ROOM` is let go. Answers the room of all that are aside.
 fn spare_room<N: Levels, L: NodeList>(
     mut batches: Vec<Batch<N, L>>,
     spare: &mut Vec<L>,
@@ -128,7 +128,7 @@ fn wave_after(wave: u16, more: u64) -> u16 {
     wave.saturating_add(u16::try_from(more).unwrap_or(u16::MAX))
 }
 
-// Tells a watch of the waves past the first of these, up to the last.
+// Reports to a watch the waves past the first of these, up to the last.
 fn tell<W: Watch>(watch: &mut W, first: u16, last: u16)
     ensures { W.becomes watch.old watch.new }
 {
@@ -382,8 +382,8 @@ impl<L: NodeList + Send + Sync, G: Graph + Sync, A: Gate, R: Threads + Wait + Sy
 > {
     // Has a worker for each seat at work from this wave on, each in a thread of its own where one
     // can be started. The workers have the numbers from `first` on. The last one is at work in this
-    // thread, and tells the watch. This thread starts the others one after the other: two that are
-    // started at once, by different threads, often share a processor for long. Answers the last
+    // thread, and reports to the watch. This thread starts the others one after the other: two that
+    // are started at once, by different threads, often share a processor for long. Answers the last
     // wave that the last worker went to, and whether memory was refused to any: otherwise each has
     // drawn.
     #[cycle(threads)]
@@ -428,8 +428,8 @@ impl<L: NodeList + Send + Sync, G: Graph + Sync, A: Gate, R: Threads + Wait + Sy
     // asks the gate after each draw. At each wave it first takes the blocks of its share there. On
     // `Go` it sends what the block found to every block, piece by piece, the last one maybe
     // together with what it draws next; on `Leave` it ends, and nothing is sent from that block. A
-    // worker for which no thread can be started is run by another one. The watch is told of each
-    // wave once it has begun, or later where this thread comes late.
+    // worker for which no thread can be started is run by another one. Each wave is reported to the
+    // watch once it has begun, or later where this thread comes late.
     fn run_from<W: Watch>(&self, wave: u16, watch: &mut W) -> Result<u16, AllocError>
         ensures { W.becomes watch.old watch.new }
     {
@@ -451,8 +451,8 @@ impl<L: NodeList + Send + Sync, G: Graph + Sync, A: Gate, R: Threads + Wait + Sy
         sent.and(Ok(last))
     }
 
-    /// Goes from wave to wave until all blocks are settled, and says at which wave they are. The
-    /// watch is told of each wave, in their order.
+    /// Goes from wave to wave until all blocks are settled, and says at which wave they are. Each
+    /// wave is reported to the watch, in their order.
     ///
     /// # Errors
     ///

@@ -15,7 +15,7 @@ use std::sync::{Mutex, MutexGuard, Wait};
 #[derive(Drop)]
 pub struct Yard<N: Levels, L: NodeList = Vec<u64>> {
     locks: Vec<Mutex<Block<N, L>>>,
-    // The vector that the blocks came in, emptied and kept for its room.
+    // The vector that the blocks came in, emptied: its room is for when they are given back.
     home: Vec<Block<N, L>>,
 }
 
@@ -29,8 +29,8 @@ impl<N: Levels, L: NodeList> Model for Yard<N, L> {
     ghost invariant = { λ y. (vec_len y.home ≡ 0) × (vec_len y.locks ≤ vec_capacity y.home) };
 }
 
-// Looks at the block of a guard. Of what stands behind a lock nothing is known but what every block
-// keeps, and the block tells that to whoever asks for its cut.
+// Looks at the block of a guard. Of what stands behind a lock nothing is known but what holds of
+// every block, and the block states that to whoever asks for its cut.
 fn with_facts<N: Levels, L: NodeList>(
     guard: MutexGuard<'_, Block<N, L>>,
 ) -> MutexGuard<'_, Block<N, L>>
@@ -79,7 +79,7 @@ impl<N: Levels, L: NodeList> Yard<N, L> {
         // What is said of all blocks of a graph, at every wave and whatever is applied, holds of
         // this one with no test but that of its level.
         ensures block { IsBlock (N.net (mutex_guard_value result).level) (mutex_guard_value result) }
-        // And so do the words of the graph.
+        // And its entries are right for that graph.
         ensures exact { IsExact (N.net (mutex_guard_value result).level) (mutex_guard_value result) }
     {
         with_facts(self.locks[k].lock(rt))

@@ -13,7 +13,7 @@ pub trait Printed {
     // That they are few enough to be counted.
     ghost is_short: { Self → Type 0 } = { λ text. ⊤ };
 
-    /// Puts the text in, piece by piece.
+    /// Puts the text in, part by part.
     fn put_into<S: Sink>(&self, out: &mut Printer<'_, S>)
         ensures takes { Takes S.contents S.failures out.old out.new (bytes self.now) }
         ensures few { is_short self.now → length (bytes self.now) < 2 ^ 63 };
@@ -42,7 +42,7 @@ pub fn send<P: Printed, S: Sink>(text: &P, sink: &mut S) -> Result<u64, u64>
     put_all(text, &mut out)
 }
 
-/// Puts a text in to the last byte, where nothing was put in before.
+/// Puts the whole text in, where nothing was put in before, and answers as [`send`] does.
 fn put_all<P: Printed, S: Sink>(text: &P, out: &mut Printer<'_, S>) -> Result<u64, u64>
     requires new { IsNew out.old }
     requires short { P.is_short text.now }

@@ -1,5 +1,5 @@
-//! A printer: a sink with a buffer of fixed size in front, so that a text of many pieces goes out
-//! in few writes. Printing answers nothing: what became of it is asked once, at the end.
+//! A printer: a sink with a buffer of fixed size in front, so that a text of many parts goes out in
+//! few writes. The calls that print answer nothing: whether all went out is asked once, at the end.
 ghost use Rattle.std.specs.Prelude.{◌≡◌, ◌+◌, ◌≤◌, [], ◌∷◌, ◌++◌, length};
 ghost use Rattle.std.specs.Fmt.{decimal};
 ghost use Rattle.morris_board.specs.Printers.{IsNew, LetsOut, Takes, has_failed_of, held_of, lent_of, outlet, outlet_of, sink_of, answer_of};

@@ -45,7 +45,8 @@ fn assert_class<B: Geometry>(
     );
 }
 
-// Sides of rings are of the first class. The first of these is led by exchanging the rings.
+// Sides of rings are of the first class. The first of these is brought to its canonical form by
+// exchanging the rings.
 #[test]
 fn sides_of_rings_are_of_the_first_class(rt: HostRuntime) {
     let classes = Classes::<Nine>::make(rt.alloc(), 3).expect(&rt, "memory");

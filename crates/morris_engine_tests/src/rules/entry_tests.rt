@@ -32,7 +32,7 @@ fn entries_of_pairs_are_counted(rt: HostRuntime) {
     assert_entries::<Nine>(&rt, rt.alloc(), (4, 3), 1_808_610);
 }
 
-// All 1,680 positions of 3-3 fall on its 320 entries, each once.
+// The orbits of the 320 entries of 3-3 have all its 1,680 positions, each once.
 #[test]
 fn each_position_falls_on_one_entry(rt: HostRuntime) {
     let pair = pair::<Grid>(&rt, 3, 3);

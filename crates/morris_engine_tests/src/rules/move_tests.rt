@@ -1,4 +1,4 @@
-//! Moves: which are legal, and which lead back.
+//! Moves: which are legal, and which quiet ones lead to a position.
 use crate::checks::{holds, same, same_text};
 use crate::rules::texts::{add, position};
 use morris_board::board::Geometry;
@@ -8,7 +8,7 @@ use morris_moves::rules::{backs, moves};
 use std::alloc::Global;
 use std::process::Abort;
 
-/// The legal moves of the position that a text shows, each as it is printed, with a space after it.
+/// The legal moves of the position of a string, each as it is printed, with a space after it.
 fn listed<B: Geometry>(rt: &impl Abort, alloc: Global, text: &str) -> String {
     let position = position::<B>(rt, text);
     let mut list = String::new(alloc);
@@ -18,7 +18,7 @@ fn listed<B: Geometry>(rt: &impl Abort, alloc: Global, text: &str) -> String {
     list
 }
 
-/// These are the legal moves of the position that a text shows.
+/// These are the legal moves of the position of a string.
 fn assert_listed<B: Geometry>(rt: &impl Abort, alloc: Global, text: &str, wanted: &str) {
     let list = listed::<B>(rt, alloc, text);
     same_text(rt, list.as_str(), wanted);
@@ -53,7 +53,7 @@ fn four_stones_slide_and_two_stay(rt: HostRuntime) {
     assert_listed::<Nine>(&rt, rt.alloc(), "XX.X............OOO.X.O.", wanted);
 }
 
-/// So many moves are listed of a position of Nine, in which stand these.
+/// So many moves of a position of Nine are listed, these among them.
 fn assert_among(rt: &impl Abort, alloc: Global, text: &str, count: u64, wanted: &str) {
     let list = listed::<Nine>(rt, alloc, text);
     same(
@@ -65,7 +65,7 @@ fn assert_among(rt: &impl Abort, alloc: Global, text: &str, count: u64, wanted: 
     holds(rt, list.as_str().contains(wanted), wanted);
 }
 
-// Three stones go to 18 vacant points each. One of these 54 steps closes a mill in the second
+// Three stones go to 18 vacant points each. One of these 54 jumps closes a mill in the second
 // position and in the third, and takes any of three stones.
 #[test]
 fn three_stones_jump_on_nine(rt: HostRuntime) {
@@ -77,7 +77,7 @@ fn three_stones_jump_on_nine(rt: HostRuntime) {
     assert_among(&rt, rt.alloc(), "XX..........X...OOO.....", 56, wanted);
 }
 
-/// The quiet moves that lead to the position that a text shows are these.
+/// These are the quiet moves that lead to the position of a string.
 fn assert_taken_back(rt: &impl Abort, alloc: Global, text: &str, wanted: &str) {
     let position = position::<Grid>(rt, text);
     let mut list = String::new(alloc);

@@ -38,7 +38,7 @@ fn positions_of_pairs_are_counted(rt: HostRuntime) {
     assert_size::<Nine>(&rt, 4, 4, 51_482_970);
 }
 
-/// The position that a text shows has this index in its pair.
+/// The position of a string has this index in its pair.
 fn assert_index<B: Geometry>(rt: &impl Abort, text: &str, index: u64) {
     let (position, pair) = shown::<B>(rt, text);
     same(rt, pair.index(&position), index, text);

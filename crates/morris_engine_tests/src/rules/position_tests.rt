@@ -1,4 +1,4 @@
-//! Texts that show no position.
+//! Texts that aren't position strings.
 use crate::checks::holds;
 use morris_board::board::Geometry;
 use morris_board::faults::TextFault;

@@ -10,7 +10,7 @@ use morris_moves::rules::{is_legal, play};
 use morris_moves::within::Within;
 use std::process::Abort;
 
-/// The search to so many plies finds this in the position that a text shows.
+/// The search to so many plies finds this in the position of a string.
 fn assert_found<B: Geometry>(rt: &impl Abort, text: &str, plies: u8, wanted: Within) {
     let position = position::<B>(rt, text);
     assert!(rt; plies <= 6);

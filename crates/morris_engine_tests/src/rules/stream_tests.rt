@@ -1,4 +1,4 @@
-//! std's readers and writers that fail, and what a printer holds back.
+//! std's readers and writers that fail, and what a printer buffers.
 ghost use Rattle.std.specs.Prelude.{◌≡◌, ◌<◌, ◌^◌, IfOk};
 
 use crate::checks::{holds, same, same_bytes};
@@ -21,7 +21,7 @@ fn read_thrice<S: Source>(source: &mut S) -> (bool, bool, bool)
     (first, second, source.read(&mut buffer).is_ok())
 }
 
-// The failure is told at its own call, and the next call goes on with the next byte.
+// The failure is reported at its own call, and the next call goes on with the next byte.
 #[test]
 fn a_source_tells_which_call_failed(rt: HostRuntime) {
     let mut source = FromRead::new(Drip::new(b"men", 1));
@@ -100,8 +100,7 @@ fn the_adapters_count_faults(rt: HostRuntime) {
     assert_read(&rt, None, Ok(0));
 }
 
-/// Behind a piece of 5,000 bytes another is put in. So many bytes have gone out then, in so many
-/// writes.
+/// After 5,000 bytes others are put in. So many bytes have gone out then, in so many writes.
 fn assert_gone(rt: &impl Abort, alloc: Global, second: &[u8], sent: u64, writes: u64) {
     let mut sink = Counting::new(alloc, 100_000, 100_000);
     let mut out = Printer::new(&mut sink);
@@ -117,8 +116,8 @@ fn assert_gone(rt: &impl Abort, alloc: Global, second: &[u8], sent: u64, writes:
     same(rt, sink.calls, writes, "writes");
 }
 
-// A piece that doesn't fit any more sends on what is held; one that is longer than the buffer goes
-// out behind it at once.
+// Bytes that don't fit any more send out what is in the buffer; those that are longer than the
+// buffer go out after it at once.
 #[test]
 fn what_does_not_fit_goes_out(rt: HostRuntime) {
     assert_gone(&rt, rt.alloc(), &[b'O'; 3_000], 0, 0);

@@ -1,4 +1,4 @@
-//! Sets and positions as texts, by which the tests compare them.
+//! Sets and positions as strings, by which the tests compare them.
 ghost use Rattle.std.specs.Prelude.{◌≡◌, true};
 ghost use Rattle.morris_index.specs.Pairs.{is_of};
 
@@ -10,7 +10,7 @@ use std::alloc::Global;
 use std::fmt::{Display, Write};
 use std::process::Abort;
 
-/// Adds an item to a text, and a space after it.
+/// Adds an item to a string, and a space after it.
 pub(crate) fn add(rt: &impl Abort, list: &mut String, item: &impl Display) {
     write!(list, "{item} ").expect(rt, "memory");
 }
@@ -22,12 +22,12 @@ pub(crate) fn add_points(rt: &impl Abort, list: &mut String, set: Points) {
     }
 }
 
-/// The position that a text shows.
+/// The position of a position string.
 pub(crate) fn position<B: Geometry>(rt: &impl Abort, text: &str) -> Position<B> {
     Position::read(text.as_bytes()).expect(rt, "a position")
 }
 
-/// The position that a text shows, and its pair.
+/// The position of a position string, and its pair.
 pub(crate) fn shown<B: Geometry>(rt: &impl Abort, text: &str) -> (Position<B>, Pair<B>)
     ensures { is_of result.1 result.0 ≡ true }
 {

@@ -1,4 +1,5 @@
-// The list of digests in a folder in memory: what is kept of an old one, and what is written.
+// The list of digests in a folder in memory: the lines of an old one that are retained, and what is
+// written.
 use crate::memory::MemoryFolder;
 use morris_board::grid::Grid;
 use morris_files::checksum_list::write_list;
@@ -52,7 +53,8 @@ abcdef0123456789abcdef0123456789abcdef0123456789abcdef0123456789  nine-5-4.nmmt\
 abcdef0123456789abcdef0123456789abcdef0123456789abcdef0123456789\n\
 abcdef0123456789abcdef0123456789abcdef0123456789abcdef0123456789  grid-5-4.nmmt\r\n";
 
-/// What is kept of this list where a build of the pair replaces files, as the caller is answered.
+/// The lines of this list that are retained where a build of the pair replaces files, as the caller
+/// gets them.
 fn retains(
     alloc: Global,
     list: Option<&[u8]>,
@@ -103,7 +105,7 @@ fn nothing_is_kept_of_no_list(rt: HostRuntime) {
     assert!(rt; retains(rt.alloc(), Some(b""), (3, 3), Ok(b"")));
 }
 
-/// Whether nothing of `OTHERS` is kept beside its neighbours, which stand before and after it.
+/// Whether each line of `OTHERS` is dropped, and the lines before and after it are not.
 fn drops_others(alloc: Global) -> Option<bool> {
     let mut list = Vec::from_slice(alloc, THREE).ok()?;
     list.extend_from_slice(OTHERS).ok()?;
@@ -174,8 +176,8 @@ fn a_list_that_cannot_be_opened_is_refused(rt: HostRuntime) {
     assert!(rt; folder.failures() == 1 && folder.get("grid.sha256") == Some(FIVE));
 }
 
-// The list before the first file is replaced has the lines that are kept and no other. The first
-// five calls write it, and the seventh is to make the part of the next.
+// The list before the first file is replaced has the retained lines and no other. The first five
+// calls write it, and the seventh is to make the part of the next.
 #[test]
 fn a_list_is_written_whole_or_not_at_all(rt: HostRuntime) {
     let alloc = rt.alloc();

@@ -1,4 +1,4 @@
-// What the files of 3-3 on `grid` tell, in either version. The values follow from the rules.
+// What the files of 3-3 on `grid` say, in either version. The values follow from the rules.
 use crate::tables::making::{built, empty, file_of, pair};
 use morris_board::grid::Grid;
 use morris_board::position::Position;
@@ -37,7 +37,7 @@ fn quiet(from: u8, to: u8) -> Move {
     }
 }
 
-/// Whether the files tell this value and these best moves of a position.
+/// Whether the files give a position this value and these best moves.
 fn is_reported<S: Storage>(
     alloc: Global,
     tables: &Tables<Grid, S>,
@@ -93,8 +93,8 @@ fn plies<S: Storage>(alloc: Global, tables: &Tables<Grid, S>, text: &[u8]) -> Op
     None
 }
 
-/// Whether all is told rightly: the capture that wins at once, and the quiet move that lets the
-/// opponent win at once where it could have been stopped, and how long two lines are.
+/// Whether all is right: the capture that wins at once, and the quiet move that lets the opponent
+/// win at once where it could have been stopped, and how long two lines are.
 fn is_right<S: Storage>(alloc: Global, tables: &Tables<Grid, S>) -> bool {
     are_told(alloc, tables)
         && value_after(alloc, tables, b"XX..OO.OX", taking(8, 2, 4)) == Some(Value::Won(1))

@@ -14,13 +14,13 @@ use morris_workers::NoProgress;
 use std::alloc::Global;
 use std::process::Abort;
 
-/// The SHA-256 of the whole file of 3-3, as another program reckons it.
+/// The SHA-256 of the whole file of 3-3, as another program computes it.
 const WHOLE: [u8; 32] = [
     0xf8, 0xc4, 0x8a, 0x20, 0xf9, 0x6d, 0x42, 0x47, 0x48, 0xed, 0x4c, 0x63, 0x1d, 0x94, 0xd9, 0x8d,
     0x80, 0xb8, 0xb0, 0x0b, 0xe2, 0xf1, 0x7e, 0xb8, 0x13, 0x2b, 0x23, 0x3d, 0x2b, 0x18, 0x40, 0x76,
 ];
 
-/// The file of the digests of that file alone.
+/// The list of digests of that file alone.
 const LINE: &[u8] =
     b"f8c48a20f96d424748ed4c631d94d98d80b8b00be2f17eb8132b233d2b184076  grid-3-3.nmmt\n";
 
@@ -53,7 +53,7 @@ fn the_file_of_a_table_has_the_name_of_its_pair(rt: HostRuntime) {
     assert!(rt; has_file(&folder));
 }
 
-/// The folder with the file of 3-3, and what is told of the file.
+/// The folder with the file of 3-3, and what was answered when that was written.
 fn stored_three(rt: &impl Abort, alloc: Global, calls: u64) -> (MemoryFolder, Written<Grid>) {
     let table = three_three(rt, alloc);
     let mut folder = MemoryFolder::new(alloc, calls, 0);

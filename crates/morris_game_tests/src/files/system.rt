@@ -13,7 +13,7 @@ use std::process::Abort;
 use std::rt::Files;
 use std::{fs, io};
 
-/// Whether the file of this name has a text of five bytes.
+/// Whether the file of this name has these five bytes.
 fn has<R: Files<File = File> + AllocGlobal>(rt: &R, path: &str, name: &str, text: &[u8]) -> bool {
     let mut folder = SystemFolder::new(rt, path);
     let mut bytes = [0; 8];
@@ -146,7 +146,7 @@ fn a_file_is_created_once(rt: HostRuntime) {
     let _ = fs::remove_dir_all(&rt, path);
 }
 
-/// Whether a file is written although a link stands under the name of its part, and what the link
+/// Whether a file is written although there is a link under the name of its part, and what the link
 /// leads to is as it was.
 fn spares<R: Files<File = File> + AllocGlobal>(rt: &R, path: &str) -> bool {
     writes(rt, path, b"new")

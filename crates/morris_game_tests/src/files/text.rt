@@ -1,4 +1,4 @@
-// A file's bytes that are written in two pieces.
+// A file's bytes that are written in two parts.
 ghost use Rattle.std.specs.Prelude.{◌++◌};
 
 use morris_board::streams::{Failed, Sink, put};
@@ -6,7 +6,7 @@ use morris_files::whole::Contents;
 use morris_workers::Watch;
 use sha2::{Digest, Sha256};
 
-/// Two texts, one after the other.
+/// Two byte strings, one after the other.
 #[derive(Clone, Copy, Debug)]
 pub struct Two<'a>(pub &'a [u8], pub &'a [u8]);
 

@@ -29,7 +29,7 @@ fn writes(alloc: Global, calls: u64, failing: u64) -> Option<(Result<(), NotWhol
 }
 
 /// Whether a file that is written while these fail is refused at the step, with the old one as it
-/// was and no other file but a part that is told.
+/// was and no other file but a part that the refusal names.
 fn is_refused(alloc: Global, calls: u64, failing: u64, step: Step, left: bool) -> bool {
     let files = if left { 2 } else { 1 };
     writes(alloc, calls, failing) == Some((Err(NotWhole { step, left }), true, files))

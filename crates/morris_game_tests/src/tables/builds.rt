@@ -79,8 +79,8 @@ fn few_and_many_workers_build_the_same_table(rt: HostRuntime) {
     assert_built(&rt, rt.alloc(), 64, 64, 100);
 }
 
-/// The table of a pair of two different numbers from its graph by rows, whose codes so many workers
-/// put into the order of the entries.
+/// The table of a pair of two different numbers, from its graph by rows; so many workers put the
+/// codes into the order of the entries.
 fn built_by_rows<R: Abort + Threads + Wait + Sync>(
     rt: &R,
     alloc: Global,
@@ -152,7 +152,7 @@ fn builds_are_refused_in_order(rt: HostRuntime) {
     assert_refused_in_order(&rt, rt.alloc(), Layout::Classes);
 }
 
-// No block is complete then, and the first one is told.
+// No block is complete then, and the first one is reported.
 #[test]
 fn a_number_that_is_left_out_leaves_every_block_incomplete(rt: HostRuntime) {
     let is_built_without_3 = is_built(&rt, rt.alloc(), &HoledGate { number: 3 }, 2, 5);

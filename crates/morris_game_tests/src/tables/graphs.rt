@@ -86,8 +86,8 @@ fn lists_by_rows_have_each_quiet_move(rt: HostRuntime) {
     );
 }
 
-/// What the nodes of a graph have in all: how many quiet moves, and how many of the nodes have a
-/// capture that leads to a loss, to a win and to a draw.
+/// How many quiet moves the nodes of a graph have in all, and how many of the nodes have a capture
+/// that leads to a loss, to a win and to a draw.
 fn moves_in_all<N: Levels, G: Graph<Name = N>>(graph: &G) -> (u64, u64, u64, u64) {
     let (mut quiet, mut lost, mut won, mut drawn) = (0u64, 0u64, 0u64, 0u64);
     for node in 0..graph.size() {

@@ -1,5 +1,5 @@
-// Tables, their files and shelves of them, of which the tests are made. A test ends where a call is
-// refused.
+// Tables, their files and shelves of them, which the tests are made with. A test ends where a call
+// is refused.
 use crate::checks::holds;
 use morris_board::board::{Board, Geometry};
 use morris_board::grid::Grid;
@@ -23,7 +23,7 @@ pub(crate) fn pair<B: Geometry>(rt: &impl Abort, a: u8, b: u8) -> Pair<B> {
     Pair::new(a, b).expect(rt, "a pair")
 }
 
-/// The position that a text shows.
+/// The position of a position string.
 pub(crate) fn position<B: Geometry>(rt: &impl Abort, text: &[u8]) -> Position<B> {
     Position::read(text).expect(rt, "a position")
 }

@@ -27,7 +27,7 @@ fn a_graph_needs_the_tables_of_others(rt: HostRuntime) {
         first_need(&rt, &empty, 4, 3) == Some(pair(&rt, 3, 3)),
         "4-3",
     );
-    // One stone less in the lesser number comes first.
+    // The pair with one stone fewer in the smaller number comes first.
     holds(
         &rt,
         first_need(&rt, &empty, 5, 4) == Some(pair(&rt, 5, 3)),

@@ -11,7 +11,7 @@ use std::alloc::Global;
 use std::process::Abort;
 use std::thread::Threads;
 
-/// So many workers tell this entry as the first one that doesn't agree, where a list states that
+/// So many workers report this entry as the first one that doesn't agree, where a list states that
 /// each position of 3-3 is a draw.
 fn assert_told<R: Abort + Threads + Sync>(rt: &R, alloc: Global, workers: usize, wanted: u64) {
     assert!(rt; 1 <= workers && workers <= 64);

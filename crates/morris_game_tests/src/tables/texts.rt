@@ -62,7 +62,7 @@ fn faults_of_builds_and_the_prober_have_texts(rt: HostRuntime) {
     }
 }
 
-// Each fault that says which table is needed has the text of that.
+// Each fault that says which table is needed has the text of `Needs`.
 #[test]
 fn faults_name_the_table_that_is_needed(rt: HostRuntime) {
     let (alloc, pair) = (rt.alloc(), pair::<Nine>(&rt, 3, 4));

@@ -7,7 +7,7 @@ use morris_pairs::exact::Exact;
 use morris_pairs::value::Value;
 use std::process::Abort;
 
-/// A table gives the position that a text shows this value.
+/// A table gives the position of a string this value.
 fn assert_value(rt: &impl Abort, table: &Exact<Grid>, text: &[u8], wanted: Value) {
     let position = position(rt, text);
     assert!(rt; Pair::of(&position) == Some(table.pair()));

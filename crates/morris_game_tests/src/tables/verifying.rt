@@ -1,4 +1,5 @@
-// Lists of codes that are verified, of which it is known from outside which entry is told.
+// Lists of codes that are verified, where it is known from outside which entry is the first that
+// doesn't agree.
 use crate::checks::same;
 use crate::tables::making::{empty, pair, three_three};
 use morris_board::grid::Grid;
@@ -19,7 +20,7 @@ fn codes_of(rt: &impl Abort, alloc: Global, table: &Exact<Grid>) -> Vec<u16> {
     codes
 }
 
-/// The entry of 3-3 that is told as the first one that doesn't agree, where these codes are stated.
+/// The first entry of 3-3 that doesn't agree, where these codes are stated.
 fn told(rt: &impl Abort, shelf: &Shelf<Grid>, codes: Vec<u16>) -> u64 {
     let raw = Raw::from_codes(pair(rt, 3, 3), Layout::Full, codes).ok();
     let (_, fault) = raw
@@ -33,14 +34,15 @@ fn told(rt: &impl Abort, shelf: &Shelf<Grid>, codes: Vec<u16>) -> u64 {
     }
 }
 
-/// This entry is told of as many equal codes as 3-3 has entries.
+/// This is the first entry that doesn't agree, where as many equal codes are stated as 3-3 has
+/// entries.
 fn assert_told_of_equal(rt: &impl Abort, alloc: Global, code: u16, wanted: u64) {
     let codes = vec![in alloc; code; 1680].expect(rt, "memory");
     same(rt, told(rt, &empty(rt, alloc), codes), wanted, "entry");
 }
 
-/// What is told of the right codes but for this one: a draw is stated where there is none, and a
-/// loss at once where there is a draw.
+/// The first entry that doesn't agree, where one of the right codes is replaced: a draw is stated
+/// where there is none, and a loss at once where there is a draw.
 fn told_of_wrong(
     rt: &impl Abort,
     alloc: Global,
@@ -54,8 +56,8 @@ fn told_of_wrong(
     told(rt, shelf, codes)
 }
 
-/// Each entry wrong in turn: of how many of them it is told that they differ and no earlier one,
-/// and the sum of all that is told.
+/// Each entry wrong in turn: how often the wrong entry is the first that doesn't agree, and the sum
+/// of the first such entries.
 fn told_of_each(rt: &impl Abort, alloc: Global, shelf: &Shelf<Grid>, right: &[u16]) -> (u64, u64) {
     let (mut themselves, mut sum) = (0u64, 0u64);
     for wrong in 0..right.len() {
@@ -66,8 +68,8 @@ fn told_of_each(rt: &impl Abort, alloc: Global, shelf: &Shelf<Grid>, right: &[u1
     (themselves, sum)
 }
 
-// Wrong entries are told as another program finds them by the rules alone: an earlier one from
-// which a move leads to the wrong one may be the first that doesn't agree.
+// The first entries that don't agree are those that another program finds by the rules alone: it
+// may be an earlier one from which a move leads to the wrong one.
 #[test]
 fn one_wrong_entry_is_told_or_an_earlier_one_that_leads_to_it(rt: HostRuntime) {
     let empty = empty(&rt, rt.alloc());

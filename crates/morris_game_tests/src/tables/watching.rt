@@ -16,13 +16,13 @@ use std::process::Abort;
 use std::sync::Wait;
 use std::thread::Threads;
 
-/// Four waves were told. No value of 3-3 is deeper than a win in 3, which wave 3 decides; wave 4
-/// decides nothing more.
+/// Four waves were reported. No value of 3-3 is deeper than a win in 3, which wave 3 decides; wave
+/// 4 decides nothing more.
 fn assert_four(rt: &impl Abort, told: &[u16]) {
     holds(rt, told == [1, 2, 3, 4].as_slice(), "waves");
 }
 
-/// A build of 3-3 tells four waves.
+/// A build of 3-3 reports four waves.
 fn assert_tells_four<R: Abort + Threads + Wait + Sync>(
     rt: &R,
     alloc: Global,
@@ -49,8 +49,8 @@ fn a_watch_is_told_the_waves_of_a_build(rt: HostRuntime) {
     assert_tells_four(&rt, rt.alloc(), Layout::Classes, 2, 5);
 }
 
-/// So many waves are told of a build over no tables that is refused for this, and whose workers are
-/// all sent away.
+/// So many waves are reported of a build over no tables that is refused for this, and whose workers
+/// are all sent away.
 fn assert_waves_before<R: Abort + Threads + Wait + Sync>(
     rt: &R,
     alloc: Global,
@@ -69,7 +69,7 @@ fn assert_waves_before<R: Abort + Threads + Wait + Sync>(
     same(rt, scribe.waves.len() as u64, waves, "waves");
 }
 
-/// A watch is told nothing of a build in a layout that is refused before its first wave.
+/// Nothing is reported of a build in a layout that is refused before its first wave.
 fn assert_tells_nothing_before<R: Abort + Threads + Wait + Sync>(
     rt: &R,
     alloc: Global,
@@ -88,7 +88,7 @@ fn a_watch_is_told_nothing_of_a_build_that_is_refused_before(rt: HostRuntime) {
     assert_tells_nothing_before(&rt, rt.alloc(), Layout::Classes);
 }
 
-// A sweep of 3-3 tells the four waves of a build.
+// A sweep of 3-3 reports the four waves of a build.
 #[test]
 fn a_watch_is_told_the_waves_of_a_sweep(rt: HostRuntime) {
     let shelf = empty::<Grid>(&rt, rt.alloc());
@@ -98,7 +98,7 @@ fn a_watch_is_told_the_waves_of_a_sweep(rt: HostRuntime) {
     assert_four(&rt, scribe.waves.as_slice());
 }
 
-/// So many entries of 3-3 are told to be done by workers who verify its table, and no wave.
+/// So many entries of 3-3 are reported by workers who verify its table, and no wave.
 fn assert_told_of_verifying<R: Abort + Threads + Wait + Sync>(
     rt: &R,
     alloc: Global,

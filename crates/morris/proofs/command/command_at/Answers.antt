@@ -45,7 +45,7 @@ returns-in-Err-Version-clause-answer g c = λ other.
       (None, None, inl refl, c.finish-in-Err-Version.ensures.reported),
     )
 
--- A request for a command that reads its input was asked for by the words.
+-- A request for a command that reads its input is what the arguments ask for.
 pub returns-in-Ok-clause-unread : goal.returns-in-Ok-clause-unread
 returns-in-Ok-clause-unread g c = λ unasked. c.run-done.ensures.unread (reads_nothing unasked (takes_input c.in-Ok.request.task) refl)
   where
@@ -54,7 +54,8 @@ returns-in-Ok-clause-unread g c = λ unasked. c.run-done.ensures.unread (reads_n
     reads_nothing unasked true is = absurd (unasked (c.in-Ok.request, c.in-Ok.ensures.request, is))
     reads_nothing unasked false is = is
 
--- What a command told is what the error sink got: some lines, or none where nobody is to be told.
+-- What a command reported is what the error sink got: some lines, or none where nothing is
+-- reported.
 module _ {R E : Type 0} (contents : E → Option (List ℕ)) (failures : E → ℕ) (first last : ProgressPrinter R E) (reports : Becomes contents failures first last)
     (on_terminal : Bool) (old new : E) (rewrites : rewrites_of first ≡ on_terminal) (start : sink_of first ≡ old) (here : new ≡ sink_of last) where
   told_in_order : has_begun_of first ≡ false → ReportsInOrder contents failures on_terminal old new
@@ -63,7 +64,7 @@ module _ {R E : Type 0} (contents : E → Option (List ℕ)) (failures : E → �
   told_nothing : reports_of first ≡ false → new ≡ old
   told_nothing unasked = here ∙ ((reports.silent unasked).1 ∙ start)
 
--- A command was run for the words, and told how far it is only where they ask for it.
+-- A command was run for the arguments, and reported its progress only where they ask for it.
 pub returns-in-Ok-clause-answer : goal.returns-in-Ok-clause-answer
 returns-in-Ok-clause-answer g c = λ other. (
   c.run-done.result,

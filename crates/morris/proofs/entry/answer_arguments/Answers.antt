@@ -1,4 +1,4 @@
--- The words are those that the system gave, and the exit status is that of the command.
+-- The arguments are those that the system gave, and the exit status is that of the command.
 use Rattle.std.proofs.Common.{ℕ, Bool, None, Option, ◌≡◌, ◌∙◌, ap, inl, inr, List, map, refl, subst, sym, Result, Ok, Err, string_bytes}
 use Rattle.std.specs.Prelude.{IfOk}
 use Rattle.std.proofs.KnownBytes.{Keeps-refl}

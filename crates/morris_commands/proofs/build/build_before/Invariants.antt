@@ -4,9 +4,9 @@ use Rattle.morris_commands.specs.Build.{HasExactBut}
 use Rattle.morris_commands.proofs.BeforeLaws.{AreBuiltBut}
 use Rattle.morris_commands.proofs.build.build_before.Given as goal
 
--- of the pairs so far but the last one there are the tables that one to come may need, or all where
--- all are kept, and codes suffice for them; the iterator has the others; what was told since the
--- start makes up one telling
+-- of the pairs so far but the last one there are the tables that a later one may need, or all where
+-- all are retained, and codes suffice for them; the iterator has the others; since the start
+-- `progress` has changed by reports alone
 abbrev pub invariant-loop-below : goal.invariant-loop-below
 invariant-loop-below g l = record {
   split : l.yielded ++ l.below-iterator ≡ below_of l.fn.pair;

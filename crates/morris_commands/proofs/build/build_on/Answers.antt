@@ -1,4 +1,4 @@
--- A pair is built where the words name it and there may be such a team.
+-- A pair is built where its name names one and the workers and blocks are in range.
 use Rattle.std.proofs.Common.{Err, ap, ◌∙◌, inl, inr}
 use Rattle.std.specs.Io.KnownBytes.{Keeps}
 use Rattle.std.proofs.KnownBytes.{Keeps-refl}
@@ -11,7 +11,7 @@ use Rattle.morris_jobs.specs.Building.{IsUnbuiltAt}
 use Rattle.morris_commands.specs.Build.{AnswersBuilt, IsUnbuiltBefore}
 use Rattle.morris_commands.proofs.build.build_on.Goals as goal
 
--- what names no pair isn't refused as a write is, nor is a team that there may not be
+-- what names no pair isn't refused as a write is, nor are workers or blocks out of range
 pub returns-in_err-pair-clause-counted : goal.returns-in_err-pair-clause-counted
 returns-in_err-pair-clause-counted g c =
     let failed = err_from_is_err_and c.from_residual.result c.from_residual.ensures.1 in

@@ -8,7 +8,7 @@ use Rattle.morris_pairs.specs.declared.layout.Layout.TheVariants.{Classes}
 use Rattle.morris_pairs.specs.Entries.{has_own_entry}
 use Rattle.morris_commands.proofs.deepest.position_of.Goals as goal
 
--- the position of an entry is led to itself, so it has a representative for its own set
+-- the position of an entry is its own canonical form, so its own set is a representative
 pub returns-in_ok-entries-in-Classes-clause-own : goal.returns-in_ok-entries-in-Classes-clause-own
 returns-in_ok-entries-in-Classes-clause-own g c =
     let board = g.B.Geometry.shape in

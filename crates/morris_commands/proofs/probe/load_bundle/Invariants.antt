@@ -4,8 +4,8 @@ use Rattle.morris_jobs.specs.Inputs.{input_of}
 use Rattle.morris_jobs.proofs.BundleLaws.{Leads}
 use Rattle.morris_commands.proofs.probe.load_bundle.Given as goal
 
--- where the files that are left lead, there leads the whole bundle; what was told since the
--- start makes up one telling
+-- where the files that are left lead, the whole bundle leads; since the start `progress` has
+-- changed by reports alone
 abbrev pub invariant-loop-place : goal.invariant-loop-place
 invariant-loop-place g l = record {
   leads : Leads g.B.Geometry.shape (Shelves g.B.Geometry.shape) (λ full. Ok full) l.initial.shelf

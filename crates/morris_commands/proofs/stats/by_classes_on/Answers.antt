@@ -1,4 +1,4 @@
--- What is printed of the pair that the text names, where there may be such a team.
+-- What is printed of the pair of a name, where the workers and blocks are in range.
 use Rattle.std.proofs.Common.{Err, ap, subst, ◌∙◌, inl}
 use Rattle.std.specs.Io.KnownBytes.{Keeps}
 use Rattle.std.proofs.KnownBytes.{Keeps-refl}
@@ -12,7 +12,7 @@ use Rattle.morris_commands.specs.Stats.{AnswersCounts, AnswersPair}
 use Rattle.morris_commands.proofs.OwnLaws.{answers_pair, none_too_deep, unbuilt_before, unbuilt_itself}
 use Rattle.morris_commands.proofs.stats.by_classes_on.Goals as goal
 
--- what names no pair isn't refused as a write is, nor is a team that there may not be
+-- what names no pair isn't refused as a write is, nor are workers or blocks out of range
 pub returns-in_err-pair-clause-counted : goal.returns-in_err-pair-clause-counted
 returns-in_err-pair-clause-counted g c =
     let failed = err_from_is_err_and c.from_residual.result c.from_residual.ensures.1 in

@@ -5,7 +5,7 @@ use Rattle.morris_commands.proofs.BeforeLaws.{AreBuiltBut}
 use Rattle.morris_commands.proofs.stats.sweep_before.Given as goal
 
 -- of the pairs so far but the last one there are the tables, and codes suffice for them; the
--- iterator has the others; what was told since the start makes up one telling
+-- iterator has the others; since the start `progress` has changed by reports alone
 abbrev pub invariant-loop-below : goal.invariant-loop-below
 invariant-loop-below g l = record {
   split : l.yielded ++ l.below-iterator ≡ below_of l.fn.pair;

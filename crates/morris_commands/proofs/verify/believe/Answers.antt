@@ -1,4 +1,4 @@
--- What was told before the pairs below are built, by them, and by the table that is verified.
+-- What is reported before the pairs below are built, by their builds, and by the verification.
 use Rattle.std.proofs.lemmas.Result.{err_from_is_err_and}
 use Rattle.morris_commands.proofs.AloneLaws.{unbelieved_before, unfit}
 use Rattle.morris_commands.proofs.verify.believe.Goals as goal

@@ -1,4 +1,4 @@
--- One pair after the other is looked at.
+-- One pair after the other is tried.
 use Rattle.std.proofs.Common.{true, false, sym, ◌∙◌, arith}
 use Rattle.morris_index.specs.Pairs.{counts}
 use Rattle.morris_files.proofs.LineLaws.{any-more, is_retained-here, is_retained-none, is_retained_of-other, is_retained_of-replaced}

@@ -1,4 +1,4 @@
--- Each piece has the next codes, so it goes on from what went out before.
+-- Each chunk has the next codes, so it goes on from what went out before.
 use Rattle.std.proofs.Common.{◌≡◌, ◌+◌, ◌*◌, ◌/◌, ◌++◌, length, take, drop, sym, ap, ◌∙◌, subst, refl, arith, rules, append-nil, append_assoc, length-take}
 use Rattle.std.proofs.KnownBytes.{Appends-nil, Appends-trans}
 use Rattle.std.proofs.lemmas.List.{take_all}

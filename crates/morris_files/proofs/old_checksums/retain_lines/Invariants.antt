@@ -1,4 +1,4 @@
--- So far the lines that were gone through have been kept, or weren't to be.
+-- So far the lines that were gone through have been retained, or weren't to be.
 use Rattle.std.proofs.Common.{◌≡◌}
 use Rattle.std.specs.List.{flat_map}
 use Rattle.morris_index.specs.Pairs.{counts}

@@ -5,8 +5,8 @@ use Rattle.morris_folder_commands.specs.Bundle.{TakesFile, reached}
 use Rattle.morris_folder_commands.specs.From.{end_of}
 use Rattle.morris_folder_commands.proofs.bundle.bundle_on.Given as goal
 
--- where the files that are left lead, there leads the whole bundle; no call failed; what was told
--- since the start makes up one telling
+-- where the files that are left lead, the whole bundle leads; no call failed; since the start
+-- `progress` has changed by reports alone
 abbrev pub invariant-loop-place : goal.invariant-loop-place
 invariant-loop-place g l = record {
   leads : Leads g.B.Geometry.shape (TakesFile g.B.Geometry.shape) (λ here. end_of here.some) (reached l.initial.tables false 0 (g.O.Sink.contents l.initial.output))

@@ -1,4 +1,4 @@
--- A list that isn't had, or isn't left, has a cause.
+-- A list that isn't read, or isn't left, has a cause.
 use Rattle.std.proofs.Common.{◌≡◌, ◌<◌, Err, Some, false, ap, arith}
 use Rattle.morris_files.specs.declared.old_checksums.ListFault.TheVariants.{Unopened}
 use Rattle.morris_folder_commands.specs.Causes.{MayBeLong}

@@ -1,4 +1,4 @@
--- A table is built, and the file that waits is written and told of.
+-- A table is built, and the file that waits is written and its line printed.
 use Rattle.std.proofs.Common.{◌∷◌, Ok, Err, refl, sym, ◌∙◌}
 use Rattle.std.proofs.lemmas.Result.{err_from_is_err_and}
 use Rattle.morris_folder_commands.specs.Filling.{rest_of}
@@ -28,7 +28,7 @@ returns-in_err-part-clause-filled g c = λ pairs.
     (place_of (g.F.Folder.files c.begin_file.new.folder) (g.O.Sink.contents c.args.output.now)) (Err refused) (Err refused)
     c.requires.there (sym c.in-Some.ensures.value) c.table_there-last.ensures c.take.ensures.after c.in_err-part.ensures.unbegun (refl, refl))
 
--- it isn't written, or not told of
+-- it isn't written, or its line not printed
 pub returns-in_err-print_line-clause-filled : goal.returns-in_err-print_line-clause-filled
 returns-in_err-print_line-clause-filled g c = λ pairs.
     let failed = err_from_is_err_and c.from_residual-in_err-print_line.result c.from_residual-in_err-print_line.ensures.1 in

@@ -1,4 +1,4 @@
--- What is told of a file is that of its table, and its line is short.
+-- What is printed of a file is that of its table, and its line is short.
 use Rattle.std.proofs.Common.{Some, false, ◌≡◌, length, ap, ◌∙◌}
 use Rattle.sha2.proofs.Facts256.{length-sha256}
 use Rattle.morris_pairs.specs.TableFiles.{file_of}

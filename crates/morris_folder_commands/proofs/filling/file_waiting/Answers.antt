@@ -1,4 +1,4 @@
--- The file that waits is written and told of.
+-- The file that waits is written and its line printed.
 use Rattle.std.proofs.Common.{◌∙◌, sym}
 use Rattle.morris_folder_commands.specs.Into.{place_of}
 use Rattle.morris_folder_commands.proofs.FillLaws.{filed_once}

@@ -1,4 +1,4 @@
--- A file that isn't had is told by its fault.
+-- A file that can't be read is answered by its fault.
 use Rattle.std.proofs.Common.{◌≡◌, Err, Some, false, sym, ap, subst, ◌∙◌, arith}
 use Rattle.morris_files.specs.declared.stored.StoredFault.TheVariants as stored
 use Rattle.morris_jobs.specs.Faults.{in_file, read_fault}

@@ -26,7 +26,7 @@ returns-clause-taken g c =
           c.print_after.ensures.printed,
     )
 
--- ---- what was told as the pair began, by its verification, and at its end
+-- ---- what was reported as the pair began, by its verification, and at its end
 
 pub returns-in-Err-clause-reported : goal.returns-in-Err-clause-reported
 returns-in-Err-clause-reported g c = g.met.T.Watch.joins _ _ _ c.begin_pair.ensures.reported c.verify_over.ensures.reported

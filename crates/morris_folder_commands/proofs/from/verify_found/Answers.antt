@@ -44,7 +44,7 @@ returns-clause-caused g c =
 pub returns-clause-reported : goal.returns-clause-reported
 returns-clause-reported g c = g.met.T.Watch.joins _ _ _ c.look_ahead.ensures.reported c.verify_pairs.ensures.reported
 
--- there is no room for a stock, or for the name of a file
+-- there is no room for a set of tables, or for the name of a file
 pub returns-in_err-tables-clause-answer : goal.returns-in_err-tables-clause-answer
 returns-in_err-tables-clause-answer g c =
     let failed = err_from_is_err_and c.from_residual.result c.from_residual.ensures.1 in

@@ -83,7 +83,7 @@ returns-then-place-ahead-clause-answer g c =
     failed_file board files c.args.board.now old empty _ c.in-Some.pair l.tables l.found l.sent out leads c.drop_unneeded.new.tables (c.drop_unneeded.ensures.gone refl) _
     (stored.Unopened, ap₂ fault.Unopened c.greater.ensures.value c.lesser.ensures.value, tt)
 
--- a file that isn't had
+-- a file that can't be read
 pub returns-in_err-raw-clause-answer : goal.returns-in_err-raw-clause-answer
 returns-in_err-raw-clause-answer g c =
     let failed = err_from_is_err_and c.from_residual.result c.from_residual.ensures.1 in

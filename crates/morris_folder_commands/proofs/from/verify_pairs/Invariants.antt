@@ -7,9 +7,9 @@ use Rattle.morris_folder_commands.specs.FromSteps.{IsAhead, StopsAt}
 use Rattle.morris_folder_commands.proofs.FromLaws.{Leads}
 use Rattle.morris_folder_commands.proofs.from.verify_pairs.Given as goal
 
--- where the pairs that are left lead, there lead all; what is known of a file is so of the file of
--- the next pair; the file that wasn't opened, if there is one, is still to come; no file is changed;
--- what was told since the start makes up one telling
+-- where the pairs that are left lead, all lead; what is known of a file is so of the file of the
+-- next pair; the file that wasn't opened, if there is one, is still to come; no file is changed;
+-- since the start `progress` has changed by reports alone
 abbrev pub invariant-loop-place : goal.invariant-loop-place
 invariant-loop-place g l = record {
   leads : Leads g.B.Geometry.shape (g.F.Folder.files l.fn.folder) l.board (g.O.Sink.contents l.fn.output) l.fn.tables

@@ -34,7 +34,7 @@ loop-below-init g c =
 
 -- ---- what is asked of the calls
 
--- the table whose file waits isn't let go
+-- the table whose file waits isn't dropped
 pub build_beside-requires-clause-there : goal.build_beside-requires-clause-there
 build_beside-requires-clause-there g c = λ κs within.
     let l = c.loop-below in

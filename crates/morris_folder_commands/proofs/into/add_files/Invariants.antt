@@ -6,9 +6,10 @@ use Rattle.morris_folder_commands.specs.Filling.{IsThere, LeadsTo, rest_of}
 use Rattle.morris_folder_commands.specs.Into.{place_of}
 use Rattle.morris_folder_commands.proofs.into.add_files.Given as goal
 
--- there are the tables of the pairs so far that one to come may need, and that of the pair whose file
--- waits, which is the last one; all other files are told of in order; where the other pairs lead,
--- there lead all; the folder is locked; what was told since the start makes up one telling
+-- there are the tables of the pairs so far that a later one may need, and that of the pair whose
+-- file waits, which is the last one; the lines of all other files are printed in order; where the
+-- other pairs lead, all lead; the folder is locked; since the start `progress` has changed by
+-- reports alone
 abbrev pub invariant-loop-below : goal.invariant-loop-below
 invariant-loop-below g l = record {
   split : l.yielded ++ l.below-iterator ≡ below_of l.fn.filling.pair;

@@ -1,5 +1,4 @@
--- The folder of the pair that the text names is filled, by as many workers and blocks as there may
--- be.
+-- The folder of the pair of a name is filled, where the workers and blocks are in range.
 use Rattle.std.proofs.Common.{subst}
 use Rattle.std.proofs.lemmas.Result.{err_from_is_err_and}
 use Rattle.morris_workers.specs.Ranges.{range_fault}

@@ -1,4 +1,4 @@
--- Entry by entry, the positions that face the next one are added.
+-- Entry by entry, the members that the next position gives are added.
 use Rattle.std.proofs.Common.{◌≡◌, ◌+◌, ◌++◌, sym, ap, subst, ◌∙◌, arith}
 use Rattle.morris_index.specs.ByOpponent.{by_opponent, AreByOpponent}
 use Rattle.morris_index.proofs.FacingLaws.{by_opponents-more}

@@ -1,4 +1,4 @@
--- The positions that face those of the entries so far are listed, and the next position is at hand.
+-- The members that the entries so far give are listed, and the next position is at hand.
 use Rattle.std.proofs.Common.{◌≡◌, ◌<◌, true}
 use Rattle.morris_board.specs.Positions.{IsPosition}
 use Rattle.morris_index.specs.Classes.{representative_of}

@@ -1,4 +1,4 @@
--- A set with no lesser image is led to itself; one with a lesser image isn't.
+-- A set with no lesser image is its own canonical form; one with a lesser image isn't.
 use Rattle.std.proofs.Common.{◌≡◌, ◌<◌, ◌≤◌, ◌^◌, ℕ, sym, ap, subst, ◌∙◌, inl, inr, arith}
 use Rattle.std.proofs.lemmas.Bool.{cases_eq}
 use Rattle.morris_board.specs.Symmetries.{image_of}

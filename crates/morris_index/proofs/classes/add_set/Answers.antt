@@ -1,4 +1,4 @@
--- The set is a representative, or the class of its representative is kept already.
+-- The set is a representative, or the class of its representative is in the table already.
 use Rattle.std.proofs.Common.{◌≡◌, ◌<◌, ◌∙◌, length, get_or, sym, ap, arith}
 use Rattle.morris_index.specs.Classes.{classes_in, canonicalizing_in, AreCanonicalizing, representative_of}
 use Rattle.morris_index.proofs.BinomialTable.{choose_small}

@@ -1,4 +1,4 @@
--- The sets with lesser ranks are kept, and the next one is at hand.
+-- The sets with lesser ranks are in the table, and the next one is at hand.
 use Rattle.std.proofs.Common.{◌<◌}
 use Rattle.morris_index.specs.Binomials.{choose}
 use Rattle.morris_index.specs.Numbering.{IsRanked}

@@ -1,4 +1,4 @@
--- The least image so far, and all symmetries so far that lead there.
+-- The least image so far, and all symmetries so far that give it.
 use Rattle.morris_index.proofs.ClassLaws.{IsLeastSoFar}
 use Rattle.morris_index.proofs.classes.least_image.Given as goal
 

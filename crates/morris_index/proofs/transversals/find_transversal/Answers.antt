@@ -1,4 +1,4 @@
--- A symmetry is kept where its inverse leads the image under it.
+-- A symmetry is in the transversal where its inverse is the canonicalizing symmetry of the image.
 use Rattle.std.proofs.Common.{ℕ, ◌≡◌, ◌<◌, ◌^◌, eqb, sym, subst, ap, ◌∙◌, arith}
 use Rattle.std.proofs.lemmas.Bool.{eq-eqb, ne_eqb}
 use Rattle.morris_board.specs.Symmetries.{image_of, inverse_of}

@@ -1,4 +1,4 @@
--- Those of the symmetries so far that return.
+-- The symmetries so far that are in the transversal.
 use Rattle.std.proofs.Common.{◌≡◌, ℕ, ◌&&◌, eqb, ltb}
 use Rattle.morris_board.specs.Sets.{has}
 use Rattle.morris_board.specs.Symmetries.{image_of, inverse_of}

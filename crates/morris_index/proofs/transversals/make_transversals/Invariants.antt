@@ -1,4 +1,4 @@
--- The classes so far are kept.
+-- The table has the transversals of the classes so far.
 use Rattle.morris_index.specs.Unmoves.{AreTransversals}
 use Rattle.morris_index.proofs.transversals.make_transversals.Given as goal
 

@@ -1,4 +1,4 @@
--- The sets of the classes so far are led.
+-- The sets of the classes so far have their words.
 use Rattle.morris_lookup.proofs.LeadLaws.{AreSetsCanonical}
 use Rattle.morris_lookup.proofs.class_words.write_class_words.Given as goal
 

@@ -16,7 +16,7 @@ few g = omega (arith, g.met.B.Geometry.few, g.met.B.Geometry.point_count)
 within : (g : Over) (set : ℕ) → set < 2 ^ g.B.Geometry.POINTS → set < 2 ^ g.B.Geometry.shape.points
 within g set small = subst (λ n. set < 2 ^ n) (sym g.met.B.Geometry.point_count) small
 
--- the image that is led
+-- the image whose word is written
 module _ (board : Shape) (few : board.points ≤ 24) (y : HasSymmetries board) (count s r x : ℕ) (low : s < board.symmetries) (small : r < 2 ^ board.points)
     (counted : count_of r ≡ count) (is : x ≡ image_of (board.image (inverse_of s)) r) where
   image_in : x < 2 ^ board.points

@@ -1,4 +1,4 @@
--- The images that the last k symmetries lead are led.
+-- The images that the last k symmetries bring to the representative have their words.
 use Rattle.morris_lookup.proofs.LeadLaws.{AreCanonicalBy}
 use Rattle.morris_lookup.proofs.class_words.write_images.Given as goal
 

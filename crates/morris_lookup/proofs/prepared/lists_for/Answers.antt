@@ -1,4 +1,5 @@
--- The sections of these sets are the one with their representatives and the one with where they are led.
+-- The sections of these sets are the one with their representatives and the one with their class
+-- words.
 use Rattle.std.proofs.Common.{◌≡◌, ◌+◌, ◌≤◌, ◌∙◌, arith}
 use Rattle.morris_lookup.proofs.PreparedLaws.{section-listed, section-class_words}
 use Rattle.morris_lookup.proofs.prepared.lists_for.Goals as goal

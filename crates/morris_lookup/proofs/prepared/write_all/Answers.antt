@@ -6,7 +6,7 @@ use Rattle.morris_lookup.specs.Prepared.{start_of, section_size, IsPreparedTo}
 use Rattle.morris_lookup.proofs.PreparedLaws.{start-suc, size-listed, size-canonical_form, start-least, start-listed, start-canonical_form, canonical_form-more}
 use Rattle.morris_lookup.proofs.prepared.write_all.Goals as goal
 
--- the representatives that the words before them lead to
+-- the representatives, where the preface says they are
 module _ (board : Shape) (k end place : ℕ) (words : List ℕ) (low : k < 4) (at : place ≡ k) (here : IsPreparedTo board (7 + k) end words) where
   first_is : get_or words (place + 1) 0 ≡ start_of board k
   first_is = let e : place + 1 ≡ 1 + k = omega (arith, at) in ap (λ i. get_or words i 0) e ∙ here.starts k (omega arith)

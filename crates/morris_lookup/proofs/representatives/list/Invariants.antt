@@ -1,4 +1,4 @@
--- The representatives of the stretches before are listed.
+-- The representatives of the chunks so far are listed.
 use Rattle.std.proofs.Common.{◌*◌}
 use Rattle.morris_index.specs.Classes.{is_representative}
 use Rattle.morris_lookup.specs.Representatives.{chunk_size, AreListed}

@@ -21,7 +21,7 @@ here : (g : given.Over) (c : In-Some-taken g) → has (takable_stones g.B.Geomet
 here g c =
     end_of (takable_stones g.B.Geometry.shape c.args.position.now.other) c.in-Some-taken.taken c.loop-taken.yielded _ _ c.loop-taken.invariant.points c.in-Some-taken.ensures.steps
 
--- what is kept of the stones that are left
+-- where the results of taking a stone stand
 left : (g : given.Over) (c : After-standing-standing g) → has (takable_stones g.B.Geometry.shape c.args.position.now.other) c.in-Some-taken.taken ≡ true
     → IsLeft g.B.Geometry.shape g.B.Geometry.POINTS c.args.position.now c.args.table.now c.in-Some-taken.taken c.standing-standing.result
 left g c is = record {

@@ -11,7 +11,7 @@ use Rattle.morris_pairs.proofs.graph.with_captures.Given as given
 use Rattle.morris_pairs.proofs.graph.with_captures.Goals as goal
 use Rattle.morris_pairs.proofs.graph.with_captures.Goals.{After-standing-standing, In-Some}
 
--- what is kept of the stones that are left
+-- where the results of taking a stone stand
 left : (g : given.Over) (c : After-standing-standing g) → IsLeft g.B.Geometry.shape g.B.Geometry.POINTS c.args.position.now c.args.table.now c.args.taken c.standing-standing.result
 left g c = record {
   takes = c.requires.taken;

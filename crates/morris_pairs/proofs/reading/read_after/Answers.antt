@@ -40,7 +40,7 @@ right : (g : given.Over) (c : After-finalize g) → c.finalize.result ≡ sha256
 right g c =
     c.finalize.ensures (c.args.header.now ++ code_bytes c.in_ok-codes.codes.items) (c.in_ok-codes.ensures.hashed c.args.header.now c.hasher_after-hasher.ensures)
 
--- a heading that is refused refuses the file
+-- a header that is refused refuses the file
 refused_heading : (board : Shape) (header : List ℕ) → length header ≡ 16 → (old new : Option (List ℕ)) (refusal : ReadFault)
     → IsHeaderRefusal board (header_at header) refusal → Reads {A = Table} (λ bytes. file_in board (header ++ bytes)) old new (Err refusal)
 refused_heading board header long None new refusal why = tt

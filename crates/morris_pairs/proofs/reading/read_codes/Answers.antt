@@ -1,4 +1,4 @@
--- Where a piece ends early, fewer bytes were read than the codes have.
+-- Where a chunk ends early, fewer bytes were read than the codes have.
 use Rattle.std.proofs.Common.{◌≡◌, ◌*◌, [], ◌++◌, length, refl, ◌∙◌, arith, rules, vec_len, append-nil, append_assoc, length-take}
 use Rattle.std.proofs.lemmas.Result.{err_from_is_err_and}
 use Rattle.std.proofs.KnownBytes.{Consumes-nil, Consumes-trans}

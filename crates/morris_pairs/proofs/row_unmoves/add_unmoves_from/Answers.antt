@@ -13,7 +13,7 @@ use Rattle.morris_pairs.proofs.row_unmoves.add_unmoves_from.Given as given
 use Rattle.morris_pairs.proofs.row_unmoves.add_unmoves_from.Goals as goal
 use Rattle.morris_pairs.proofs.row_unmoves.add_unmoves_from.Goals.{After-with-mover, then-gives_unmove+in_ok-push, else-gives_unmove}
 
--- where the stones stood before the step
+-- where the stones stood before the move
 mover : (g : given.Over) (c : After-with-mover g) → c.with-mover.result ≡ move_stone c.args.stones c.args.to c.args.from
 unfolding move_stone
 mover g c = c.with-mover.ensures ∙ ap (λ (k : ℕ). with_point k c.args.from) c.without.ensures

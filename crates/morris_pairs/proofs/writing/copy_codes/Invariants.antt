@@ -1,4 +1,4 @@
--- So far the piece begins with the first `i` of the codes.
+-- So far the chunk begins with the first `i` of the codes.
 use Rattle.std.proofs.Common.{◌≡◌, ◌*◌, take, drop}
 use Rattle.morris_pairs.specs.TableFiles.{code_bytes}
 use Rattle.morris_pairs.proofs.writing.copy_codes.Given as goal

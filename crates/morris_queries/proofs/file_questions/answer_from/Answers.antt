@@ -7,7 +7,7 @@ use Rattle.morris_queries.specs.Found.{AnswersFind}
 use Rattle.morris_queries.proofs.AskLaws.{memory_answer}
 use Rattle.morris_queries.proofs.file_questions.answer_from.Goals as goal
 
--- there is no room for a piece of the file, or for the classes
+-- there is no room for a chunk of the file, or for the classes
 pub returns-in_err-codes-clause-answer : goal.returns-in_err-codes-clause-answer
 returns-in_err-codes-clause-answer g c =
     let failed = err_from_is_err_and c.from_residual.result c.from_residual.ensures.1 in

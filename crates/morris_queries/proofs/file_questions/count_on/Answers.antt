@@ -1,4 +1,4 @@
--- What is printed of the pair that the text names.
+-- What is printed of the pair of a name.
 use Rattle.std.proofs.Common.{Err, ap, ◌∙◌}
 use Rattle.std.specs.Io.KnownBytes.{Keeps}
 use Rattle.std.proofs.lemmas.Result.{err_from_is_err_and}

@@ -1,4 +1,4 @@
--- What is printed of the pair and the value that the texts name.
+-- What is printed of the pair and the value of two names.
 use Rattle.std.proofs.Common.{◌∙◌, Err, Ok, ap, refl}
 use Rattle.std.specs.Prelude.{Result}
 use Rattle.std.specs.Io.KnownBytes.{Keeps}
@@ -26,7 +26,7 @@ returns-clause-answer g c =
     (Positions (record { wanted = found; all = c.args.all; shown = c.args.shown })) old new r))
     (Ok c.in_ok-wanted.wanted, c.in_ok-wanted.ensures, c.ask.ensures.answer)
 
--- the text of the value asks for nothing
+-- no value has this name
 pub returns-in_err-wanted-clause-answer : goal.returns-in_err-wanted-clause-answer
 returns-in_err-wanted-clause-answer g c =
     let board = g.B.Geometry.shape in
@@ -39,7 +39,7 @@ returns-in_err-wanted-clause-answer g c =
     (Positions (record { wanted = found; all = c.args.all; shown = c.args.shown })) old old r))
     (Err c.in_err-wanted.field-0.0, c.in_err-wanted.ensures, (failed.1 ∙ ap Err failed.2, Keeps-refl old))
 
--- a text that names no pair isn't refused as a write is, and neither is one that asks for nothing
+-- a name of no pair isn't refused as a write is, and neither is one of no value
 pub returns-in_err-pair-clause-counted : goal.returns-in_err-pair-clause-counted
 returns-in_err-pair-clause-counted g c =
     let failed = err_from_is_err_and c.from_residual.result c.from_residual.ensures.1 in

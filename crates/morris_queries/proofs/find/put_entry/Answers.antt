@@ -7,7 +7,7 @@ use Rattle.morris_queries.proofs.FoundLaws.{own_listed, own_text, shared_listed}
 use Rattle.morris_queries.proofs.find.put_entry.Goals as goal
 use Rattle.morris_queries.proofs.find.put_entry.Goals.{in_default-via-in-Some+else-all, in_default-via-in_default}
 
--- all that share the entry
+-- the orbit of the entry
 pub returns-in-Some : goal.returns-in-Some
 returns-in-Some g c =
     let board : Shape = g.B.Geometry.shape in
@@ -23,7 +23,7 @@ returns-in-Some g c =
       rest = c.put_orbit.ensures.left;
     }
 
--- the one that has it for its own, or the one that has it
+-- its canonical form, or the one position that has it
 pub returns-in_default : goal.returns-in_default
 returns-in_default g c =
     let board : Shape = g.B.Geometry.shape in

@@ -8,7 +8,7 @@ use Rattle.morris_queries.specs.Found.{AreFound, IsStated, found_text}
 use Rattle.morris_queries.proofs.FoundLaws.{asked_below}
 use Rattle.morris_queries.proofs.find.put_kind.Given as goal
 
--- the texts of the positions that are found among the entries so far went in
+-- the strings of the positions that are found among the entries so far went in
 abbrev pub invariant-loop-entry : goal.invariant-loop-entry
 invariant-loop-entry g l = record {
   stays : l.entries ≡ l.initial.entries;

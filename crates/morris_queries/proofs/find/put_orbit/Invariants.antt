@@ -3,8 +3,8 @@ use Rattle.morris_board.specs.Printers.{Takes}
 use Rattle.morris_queries.specs.Found.{found_text}
 use Rattle.morris_queries.proofs.find.put_orbit.Given as goal
 
--- the texts of the positions so far went in, of which there are as many as there may be at most; the
--- iterator has the others
+-- the strings of the positions so far went in, of which there are as many as there may be at most;
+-- the iterator has the others
 abbrev pub invariant-loop-position : goal.invariant-loop-position
 invariant-loop-position g l = record {
   split : l.yielded ++ l.position-iterator ≡ l.fn.orbit;

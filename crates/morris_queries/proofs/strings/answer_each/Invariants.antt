@@ -4,7 +4,7 @@ use Rattle.morris_queries.specs.Answers.{AreOut}
 use Rattle.morris_queries.specs.Folders.{IsOf, Stays}
 use Rattle.morris_queries.proofs.strings.answer_each.Given as goal
 
--- the answers to the texts so far went out, and were counted
+-- the answers to the strings so far went out, and were counted
 abbrev pub invariant-loop-text : goal.invariant-loop-text
 invariant-loop-text g l = record {
   stays : Stays g.B.Geometry.shape g.L.Library.files l.initial.folder l.folder;

@@ -12,7 +12,7 @@ returns-in-Ok-begin-clause-answer g c =
     (c.new-folder.ensures.of (c.in-Ok.ensures c.args.board.now (g.L.Library.files c.find.new.self))))
     (out_begun g.B.Geometry.shape c.args.board.now known c.args.show start (g.O.Sink.contents c.begin.new.output) c.in-Ok-begin.tally c.in-Ok-begin.ensures.begun)
 
--- a write failed before any text was answered
+-- a write failed before any string was answered
 pub returns-clause-answer : goal.returns-clause-answer
 returns-clause-answer g c =
     begun_failed g.B.Geometry.shape c.args.board.now (g.L.Library.files c.args.library.now) c.args.show (map (λ t. t.now) c.args.strings.now)

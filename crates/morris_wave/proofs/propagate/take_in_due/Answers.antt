@@ -16,7 +16,7 @@ use Rattle.morris_wave.proofs.propagate.take_in_due.Given as given
 use Rattle.morris_wave.proofs.propagate.take_in_due.Goals as goal
 use Rattle.morris_wave.proofs.propagate.take_in_due.Goals.{In-Some}
 
--- the nodes of the piece, between those that were taken in and those that are left
+-- the nodes of the chunk, between those that were taken in and those that are left
 parts : (g : given.Over) (c : In-Some g)
     → nodes_of c.args.due.now ≡ c.loop-gaps.invariant.9 ++ (numbers_reported c.loop-gaps.next c.in-Some.gaps.now ++ numbers_reported (next_reported c.loop-gaps.next c.in-Some.gaps.now) (chunks_rest c.next.new.self))
 parts g c =
@@ -35,7 +35,7 @@ once g c k l =
     let rest = numbers_reported (next_reported c.loop-gaps.next c.in-Some.gaps.now) (chunks_rest c.next.new.self) in
     omega (arith, ap (times i) (parts g c), times-append i done (piece ++ rest), times-append i piece rest, times-append i done piece)
 
--- and each is of the stretch
+-- and each is of the range
 within : (g : given.Over) (c : In-Some g)
     → All (λ i. (c.args.entries.now.first ≤ i) × (i < c.args.entries.now.first + length c.args.entries.now.codes)) (numbers_reported c.loop-gaps.next c.in-Some.gaps.now)
 within g c =

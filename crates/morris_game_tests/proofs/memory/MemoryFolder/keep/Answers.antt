@@ -1,4 +1,4 @@
--- The name is that of the text that was made of it.
+-- The name is that of the string that was made of it.
 use Rattle.std.proofs.Common.{ap, ◌∙◌}
 use Rattle.std.specs.Option.{option_map}
 use Rattle.morris_game_tests.proofs.MemoryLaws.{others_kept}

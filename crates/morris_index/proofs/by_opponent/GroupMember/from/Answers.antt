@@ -1,4 +1,4 @@
--- The position is led by the symmetry that leaves each point where it is.
+-- The canonicalizing symmetry of the results is the one that leaves each point where it is.
 use Rattle.morris_index.proofs.FacingLaws.{canonical_itself_on}
 use Rattle.morris_index.proofs.by_opponent.GroupMember.from.Goals as goal
 

@@ -1,4 +1,4 @@
--- Each symmetry that carries the turned position gives one position.
+-- Each symmetry that is at hand gives one member.
 use Rattle.std.proofs.Common.{◌≡◌, ℕ, ◌++◌, ◌&&◌, ltb, true, map, refl, sym, ap, subst, ◌∙◌, arith}
 use Rattle.std.proofs.lemmas.List.{append-nil}
 use Rattle.morris_board.specs.Sets.{has, members}

@@ -1,4 +1,4 @@
--- What the symmetry makes of the turned position is one that faces it.
+-- The image of the position with the other player to move is a member.
 use Rattle.std.proofs.Common.{◌≡◌, ◌<◌, true, sym, ap, ap₂, subst, ◌∙◌, arith}
 use Rattle.morris_board.specs.Positions.{Sides}
 use Rattle.morris_board.specs.Sets.{count_of}
@@ -14,7 +14,7 @@ use Rattle.morris_index.proofs.by_opponent.OpponentGroup.member.Given as given
 use Rattle.morris_index.proofs.by_opponent.OpponentGroup.member.Goals as goal
 use Rattle.morris_index.proofs.by_opponent.OpponentGroup.member.Goals.{After-count}
 
--- the position that is read, that it is one of the pair, and what the symmetry makes of the turned one
+-- the position that is read, that it is one of the pair, and its image with the sides swapped
 facing_it : (g : given.Over) (c : After-count g)
     → (c.image_of-other.result ≡ image_of (g.B.Geometry.shape.image c.args.symmetry) c.args.position.now.own)
     × (is_of c.self.inside.pair.now c.args.position.now ≡ true) × (c.args.symmetry < g.B.Geometry.shape.symmetries)

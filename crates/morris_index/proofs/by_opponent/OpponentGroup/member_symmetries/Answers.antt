@@ -1,4 +1,4 @@
--- The stones of the player to move in the turned position are the opponent's.
+-- With the sides swapped, the stones of the player to move are the opponent's.
 use Rattle.std.proofs.Common.{◌≡◌, ◌&&◌, ltb, true, sym, ap, ap₂, subst, ◌∙◌}
 use Rattle.morris_board.specs.Sets.{count_of}
 use Rattle.morris_board.specs.Positions.{Sides}

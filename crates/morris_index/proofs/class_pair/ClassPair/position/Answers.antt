@@ -16,7 +16,7 @@ returns-clause-canonical_form g c = λ s h of e.
     c.position.ensures.canonical_form s h (subst (λ p. is_of p s ≡ true) (sym c.row_from.ensures.pair) of)
     (ap (λ p. class_index_of g.B.Geometry.shape g.B.Geometry.POINTS p s) c.row_from.ensures.pair ∙ e ∙ at)
 
--- the position of an entry is led to itself, so it has a representative for its own set
+-- the position of an entry is its own canonical form, so it has a representative for its own set
 pub returns-clause-own : goal.returns-clause-own
 returns-clause-own g c =
     let p : Sides = c.position.result in

@@ -1,4 +1,4 @@
--- Each symmetry that carries the move gives one entry.
+-- Each symmetry that gives an un-move gives one entry.
 use Rattle.std.proofs.Common.{◌≡◌, ◌||◌, ◌<◌, ◌++◌, not, true, map, refl, sym, ap, subst, ◌∙◌, arith}
 use Rattle.std.proofs.lemmas.List.{append-nil}
 use Rattle.morris_board.specs.Sets.{has, members, with_point, without_point}
@@ -17,7 +17,7 @@ use Rattle.morris_index.proofs.predecessor_entries.PredecessorEntries.add.Given 
 use Rattle.morris_index.proofs.predecessor_entries.PredecessorEntries.add.Goals as goal
 use Rattle.morris_index.proofs.predecessor_entries.PredecessorEntries.add.Goals.{In-Some}
 
--- the symmetry at hand carries the move: what it makes of the position before
+-- the symmetry at hand gives an un-move: what it makes of the predecessor
 unmoved : (g : given.Over) (c : In-Some g) → (c.in-Some.symmetry < g.B.Geometry.shape.symmetries)
     × (c.with-mover.result ≡ (unmove_sides c.self.inside.position c.args.from c.args.to).own)
     × IsCarried g.B.Geometry.shape g.B.Geometry.POINTS (unmove_sides c.self.inside.position c.args.from c.args.to) c.in-Some.symmetry

@@ -5,7 +5,7 @@ use Rattle.morris_pairs.proofs.CountLaws.{tallied_first, tallied_second}
 use Rattle.morris_jobs.proofs.CountedLaws.{some_map}
 use Rattle.morris_jobs.proofs.counts.Halves.of.Goals as goal
 
--- the first entries have the greater number of stones of the player to move
+-- the entries of the first half have the larger number of stones of the player to move
 pub returns-clause-greater : goal.returns-clause-greater
 returns-clause-greater g c =
     let board = g.B.Geometry.shape in
@@ -18,7 +18,7 @@ returns-clause-greater g c =
     (rw (c.first_half-first.ensures.value, ← points) at h))
     c.in_ok-greater.ensures.counted
 
--- the others have the lesser one
+-- those of the second half have the smaller one
 pub returns-clause-lesser : goal.returns-clause-lesser
 returns-clause-lesser g c =
     let board = g.B.Geometry.shape in

@@ -1,4 +1,4 @@
--- One line is told, whole or in part, where it is time for it and the sink has room.
+-- One line is written, whole or in part, where it is time for it and the sink has room.
 use Rattle.std.proofs.Common.{◌≡◌, ◌∙◌, true, false, refl, sym, arith}
 use Rattle.morris_jobs.proofs.progress_printer.ProgressPrinter.report.Goals as goal
 

@@ -1,4 +1,4 @@
--- The pair at work is no part of what was told.
+-- The pair at work is no part of what was reported.
 use Rattle.morris_jobs.specs.ProgressLaws.{Becomes-stays}
 use Rattle.morris_jobs.proofs.progress_printer.ProgressPrinterProgress.begin_pair.Goals as goal
 

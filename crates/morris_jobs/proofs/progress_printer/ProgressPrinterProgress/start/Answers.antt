@@ -1,4 +1,4 @@
--- Nothing is told again.
+-- Nothing is reported again.
 use Rattle.morris_jobs.specs.ProgressLaws.{Becomes-stays}
 use Rattle.morris_jobs.proofs.progress_printer.ProgressPrinterProgress.start.Goals as goal
 

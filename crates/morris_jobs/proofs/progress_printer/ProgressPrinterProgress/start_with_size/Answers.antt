@@ -1,5 +1,5 @@
--- How much there is to do is told once that is known, and nothing where it is told no more or
--- again.
+-- How much there is to do is reported once that is known, and nothing where it is reported no more
+-- or again.
 use Rattle.std.proofs.Common.{◌≡◌, ◌∙◌, true, false, sym}
 use Rattle.morris_jobs.specs.Progress.{progress_state_of}
 use Rattle.morris_jobs.specs.ProgressLaws.{Becomes-stays}

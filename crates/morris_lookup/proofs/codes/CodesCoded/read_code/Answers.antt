@@ -6,7 +6,7 @@ use Rattle.morris_lookup.specs.Storage.{bytes_at}
 use Rattle.morris_lookup.proofs.PieceLaws.{chunk_known}
 use Rattle.morris_lookup.proofs.codes.CodesCoded.read_code.Goals as goal
 
--- the entry is in the piece
+-- the entry is in the chunk
 pub returns-then-entry-self-clause-read : goal.returns-then-entry-self-clause-read
 returns-then-entry-self-clause-read g c =
     let board = g.B.Geometry.shape in

@@ -1,5 +1,5 @@
--- The loop keeps what is still to come of the list, and each arm of it takes one step along that
--- list.
+-- The loop has in hand what is still to come of the list, and each arm of it goes on by one element
+-- of that list.
 use Rattle.std.proofs.Common.{◌≡◌, ℕ, suc, ◌+◌, ◌*◌, ◌<◌, ◌≤◌, true, not, eqb, List, ◌∷◌, length, sym, ap, ◌∙◌, arith, None, Some}
 use Rattle.std.proofs.lemmas.Bool.{and_parts}
 use Rattle.std.specs.Iterator.{MakesProgress, item_count}

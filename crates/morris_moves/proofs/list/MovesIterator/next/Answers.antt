@@ -1,5 +1,5 @@
--- The loop keeps what is still to come of the list, and each arm of it takes one step along that
--- list.
+-- The loop has in hand what is still to come of the list, and each arm of it goes on by one element
+-- of that list.
 use Rattle.std.proofs.Common.{◌≡◌, ℕ, suc, ◌+◌, ◌*◌, ◌<◌, ◌≤◌, true, false, List, ◌∷◌, length, sym, ap, ◌∙◌, arith, Some}
 use Rattle.std.specs.Iterator.{MakesProgress, item_count}
 use Rattle.morris_board.specs.Sets.{members, count_of}

@@ -23,7 +23,7 @@ returns-in-Full-clause-counted g c =
     (counted board (table_of entries known) c.args.all c.args.first (omega arith) (ap (λ (e : CodedEntries). e.stated) c.self.view_is ∙ is))))
     c.count_chunk.ensures.counted
 
--- all positions that share an entry are asked for
+-- all positions of an orbit are asked for
 pub returns-in-Classes-clause-counted : goal.returns-in-Classes-clause-counted
 returns-in-Classes-clause-counted g c =
     let board : Shape = g.B.Geometry.shape in

@@ -9,7 +9,7 @@ use Rattle.morris_pairs.proofs.numbering.Numbering.next_position.Goals as goal
 pub next_position-requires-in-Classes-clause-own : goal.next_position-requires-in-Classes-clause-own
 next_position-requires-in-Classes-clause-own g c = eqb-true _ _ (rw c.in-Classes.is at c.requires.own)
 
--- the position of an entry is led to itself, so it has a representative for its own set
+-- the position of an entry is its own canonical form, so its own set is in canonical form
 pub returns-in-Classes-clause-own : goal.returns-in-Classes-clause-own
 returns-in-Classes-clause-own g c =
     let board = g.B.Geometry.shape in

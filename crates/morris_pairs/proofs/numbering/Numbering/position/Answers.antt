@@ -6,7 +6,7 @@ use Rattle.morris_index.specs.ClassPairs.{canonical_form}
 use Rattle.morris_index.proofs.ClassPairLaws.{canonical_own}
 use Rattle.morris_pairs.proofs.numbering.Numbering.position.Goals as goal
 
--- the position of an entry is led to itself, so it has a representative for its own set
+-- the position of an entry is its own canonical form, so its own set is in canonical form
 pub returns-in-Classes-clause-own : goal.returns-in-Classes-clause-own
 returns-in-Classes-clause-own g c =
     let board = g.B.Geometry.shape in

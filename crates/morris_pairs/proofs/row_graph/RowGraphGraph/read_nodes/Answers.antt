@@ -27,7 +27,7 @@ split g c =
     split_is g.B.Geometry.shape g.met.B.Geometry.is_lawful g.met.B.Geometry.has_symmetries g.B.Geometry.POINTS g.met.B.Geometry.few g.met.B.Geometry.point_count
     c.args.self.now (here g c).lawful (here g c).two c.self.inside.classes (here g c).pair c.first_half-split.result c.first_half-split.ensures.value
 
--- where a piece ends
+-- where a range of nodes ends
 
 pub overflow_add-end : goal.overflow_add-end
 overflow_add-end g c =
@@ -36,7 +36,7 @@ overflow_add-end g c =
     c.args.self.now is.lawful is.two c.self.inside.classes is.pair c.first_half-split.result c.first_half-split.ensures.value in
     omega (arith, size, c.requires.inside, c.first_half-split.ensures.few)
 
--- a piece of the first half
+-- a range in the first half
 
 pub read_rows-requires-clause-pair : goal.read_rows-requires-clause-pair
 read_rows-requires-clause-pair g c = c.self.invariant.pair
@@ -66,7 +66,7 @@ returns-then-end-split-clause-exits g c = λ k low.
     ∙ (first_same g.B.Geometry.shape g.met.B.Geometry.is_lawful g.met.B.Geometry.has_symmetries c.args.self.now (pair g at) (here g at).two
     g.B.Geometry.POINTS g.met.B.Geometry.point_count (c.args.first + k) (omega (arith, c.if-end-split.true, split g at, low, c.requires.room))).1
 
--- a piece of the second half
+-- a range in the second half
 
 pub read_swapped-requires-clause-inside : goal.read_swapped-requires-clause-inside
 read_swapped-requires-clause-inside g c =
@@ -93,7 +93,7 @@ returns-then-split-first-clause-exits g c = λ k low.
     omega (arith, split g (goal.at.returns-then-split-first-clause-exits g c).After-first_half-split, c.if-split-first.true) in
     c.read_swapped.ensures.exits k low ∙ ap (λ i. exits_of ((net_at g.B.Geometry.shape (level_in Rows c.args.self.now)).exits i)) place
 
--- a piece of both
+-- a range in both
 
 pub loop-place-preserved : goal.loop-place-preserved
 loop-place-preserved g c =

@@ -1,4 +1,4 @@
--- The step keeps the rule, as `draws` says.
+-- The step preserves the rule, as `draws` says.
 use Rattle.std.proofs.Common.{arith}
 use Rattle.morris_workers.proofs.DrawSteps.{draws}
 use Rattle.morris_workers.proofs.tickets.Tickets.draw.Goals as goal

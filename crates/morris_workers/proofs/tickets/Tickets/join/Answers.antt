@@ -1,4 +1,4 @@
--- The join keeps the rule, as `joins` says.
+-- The join preserves the rule, as `joins` says.
 use Rattle.std.proofs.Common.{arith}
 use Rattle.morris_workers.proofs.SeatJoins.{joins}
 use Rattle.morris_workers.proofs.tickets.Tickets.join.Goals as goal

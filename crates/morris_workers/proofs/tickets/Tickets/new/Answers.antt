@@ -1,4 +1,4 @@
--- A seat that is put behind the others is a new seat of the same tickets.
+-- A seat that is put after the others is a new seat of the same tickets.
 use Rattle.std.proofs.Common.{refl, rules}
 use Rattle.morris_workers.proofs.SeatLists.{one_more_seat, first_is_new}
 use Rattle.morris_workers.proofs.tickets.Tickets.new.Goals as goal

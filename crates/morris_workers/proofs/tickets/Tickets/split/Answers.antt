@@ -1,4 +1,4 @@
--- The split keeps the rule, as `splits` says.
+-- The split preserves the rule, as `splits` says.
 use Rattle.std.proofs.Common.{ap, arith}
 use Rattle.morris_workers.proofs.SeatSplits.{splits}
 use Rattle.morris_workers.proofs.tickets.Tickets.split.Goals as goal
