@@ -1,5 +1,5 @@
-/* A plain look-up of positions of the usual board in table files, to measure `morris lookup` and
- * the library of embed/ beside: it maps the files of a folder and prints, for each line of the
+/* Looks positions of the usual board up in table files, as a baseline for `morris lookup` and for
+ * the library of embed/: it maps the files of a folder and prints, for each line of the
  * input, the position, its value and its best moves. It was written from docs/FILE_FORMAT.md and
  * the rules. No part of the product: nothing in it is proved, and it trusts its input.
  *
@@ -23,11 +23,11 @@ enum { POINTS = 24, SYMMETRIES = 16, MOST = 9 };
 
 static uint32_t neighbours[POINTS], mills[16];
 static uint8_t image[SYMMETRIES][POINTS];
-/* The image of a set, from its three bytes. */
-static uint32_t led[SYMMETRIES][3][256];
+/* What each symmetry makes of a set: the image of each of its three bytes. */
+static uint32_t byte_map[SYMMETRIES][3][256];
 static uint64_t choose[POINTS + 1][MOST + 2];
-/* For each set of so many points, by its rank: its class and the first symmetry that leads
- * there. */
+/* For each set of so many points, by its rank: its class and its canonicalizing symmetry, the
+ * first one. */
 static uint32_t *classes[MOST + 1];
 static uint32_t count_of_classes[MOST + 1];
 static const uint8_t *files[MOST + 1][MOST + 1];
@@ -48,7 +48,8 @@ static uint64_t rank(uint32_t set)
 
 static uint32_t image_of(int symmetry, uint32_t set)
 {
-    return led[symmetry][0][set & 255] | led[symmetry][1][set >> 8 & 255] | led[symmetry][2][set >> 16];
+    const uint32_t(*of)[256] = byte_map[symmetry];
+    return of[0][set & 255] | of[1][set >> 8 & 255] | of[2][set >> 16];
 }
 
 static void prepare(void)
@@ -69,8 +70,8 @@ static void prepare(void)
                 mills[4 * r + k / 2] = 1u << p | 1u << (p + 1) | 1u << (8 * r + (k + 2) % 8);
             }
             for (int s = 0; s < SYMMETRIES; s++) {
-                int turned = (s / 4 % 2 ? 2 * (s % 4) - k : k + 2 * (s % 4)) & 7;
-                image[s][p] = 8 * (s / 8 ? 2 - r : r) + turned;
+                int place = (s / 4 % 2 ? 2 * (s % 4) - k : k + 2 * (s % 4)) & 7;
+                image[s][p] = 8 * (s / 8 ? 2 - r : r) + place;
             }
         }
     }
@@ -81,7 +82,7 @@ static void prepare(void)
         for (int part = 0; part < 3; part++) {
             for (int byte = 0; byte < 256; byte++) {
                 for (int bit = 0; bit < 8; bit++) {
-                    led[s][part][byte] |= byte >> bit & 1 ? 1u << image[s][8 * part + bit] : 0;
+                    byte_map[s][part][byte] |= byte >> bit & 1 ? 1u << image[s][8 * part + bit] : 0;
                 }
             }
         }
@@ -91,7 +92,7 @@ static void prepare(void)
 /* The classes of the sets of so many points, in the order of ranks, which is that of masks. */
 static void make_classes(int stones)
 {
-    uint32_t *kept = malloc(choose[POINTS][stones] * sizeof *kept);
+    uint32_t *table = malloc(choose[POINTS][stones] * sizeof *table);
     uint32_t set = (1u << stones) - 1, found = 0;
     for (uint64_t at = 0; at < choose[POINTS][stones]; at++) {
         uint32_t least = set, first = 0;
@@ -102,11 +103,11 @@ static void make_classes(int stones)
                 first = s;
             }
         }
-        kept[at] = (least == set ? found++ : kept[rank(least)] >> 4) << 4 | first;
+        table[at] = (least == set ? found++ : table[rank(least)] >> 4) << 4 | first;
         uint32_t low = set & -set, next = set + low;
         set = next | ((set ^ next) >> 2) / low;
     }
-    classes[stones] = kept;
+    classes[stones] = table;
     count_of_classes[stones] = found;
 }
 
@@ -128,7 +129,7 @@ static const uint8_t *file_of(int a, int b)
 }
 
 /* The points of a set, renumbered among those that aren't in `outside`. */
-static uint32_t squeezed(uint32_t set, uint32_t outside)
+static uint32_t squeeze(uint32_t set, uint32_t outside)
 {
     uint32_t made = 0;
     for (; set; set &= set - 1) {
@@ -162,7 +163,7 @@ static int code(uint32_t own, uint32_t other)
     } else {
         first = rank(own);
     }
-    uint64_t at = first * choose[POINTS - a][b] + rank(squeezed(other, own));
+    uint64_t at = first * choose[POINTS - a][b] + rank(squeeze(other, own));
     if (a < b) {
         at += sets * choose[POINTS - b][a];
     }
@@ -189,9 +190,9 @@ static void print_best(uint32_t own, uint32_t other, int wanted)
         uint32_t ends = count(own) == 3 ? vacant : neighbours[from] & vacant;
         for (; ends; ends &= ends - 1) {
             int to = __builtin_ctz(ends);
-            uint32_t moved = (own & ~(1u << from)) | 1u << to;
-            if (!in_mill(moved, to)) {
-                if (code(other, moved) == wanted) {
+            uint32_t after = (own & ~(1u << from)) | 1u << to;
+            if (!in_mill(after, to)) {
+                if (code(other, after) == wanted) {
                     printf("%s%d-%d", before, from, to);
                     before = " ";
                 }
@@ -202,7 +203,7 @@ static void print_best(uint32_t own, uint32_t other, int wanted)
                 takable |= in_mill(other, __builtin_ctz(it)) ? 0 : it & -it;
             }
             for (uint32_t it = takable ? takable : other; it; it &= it - 1) {
-                if (code(other & ~(it & -it), moved) == wanted) {
+                if (code(other & ~(it & -it), after) == wanted) {
                     printf("%s%d-%dx%d", before, from, to, __builtin_ctz(it));
                     before = " ";
                 }
@@ -253,16 +254,16 @@ static int print_time(void)
     return 0;
 }
 
-int main(int words, char **word)
+int main(int argc, char **argv)
 {
     char line[64];
-    if (words < 2 || words > 3) {
+    if (argc < 2 || argc > 3) {
         fprintf(stderr, "lookups FOLDER [values | time]\n");
         return 2;
     }
-    folder = word[1];
+    folder = argv[1];
     prepare();
-    if (words == 3 && !strcmp(word[2], "time")) {
+    if (argc == 3 && !strcmp(argv[2], "time")) {
         return print_time();
     }
     while (fgets(line, sizeof line, stdin)) {
@@ -275,7 +276,7 @@ int main(int words, char **word)
         } else {
             printf("%s in %d", found % 2 ? "lost" : "won", found - 1);
         }
-        if (words == 2 && found != 1) {
+        if (argc == 2 && found != 1) {
             print_best(own, other, found ? found - 1 : 0);
         }
         printf("\n");

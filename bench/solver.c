@@ -1,6 +1,6 @@
-/* A plain solver of the usual board, to hold `morris build nine PAIR --classes` against: it builds
- * the tables of a pair and of all pairs below it, with one entry per symmetry class, and writes
- * their files. It was written from the rules and docs/FILE_FORMAT.md alone, and shares no code with
+/* A solver of the usual board, as a baseline for `morris build nine PAIR --classes`: it builds the
+ * tables of a pair and of all pairs below it, with one entry per symmetry class, and writes their
+ * files. It was written from the rules and docs/FILE_FORMAT.md alone, and shares no code with
  * the crates. No part of the product: nothing in it is proved.
  *
  *     cc -O3 -march=native -fopenmp -o solver bench/solver.c
@@ -22,16 +22,16 @@ enum { MOST_PLIES = 1024, MOST_THREADS = 64, NEVER = 65535 };
 
 static uint32_t neighbours[POINTS], mills_through[POINTS][2];
 static uint8_t image[SYMMETRIES][POINTS];
-/* The image of a set, from its three bytes. */
-static uint32_t led[SYMMETRIES][3][256];
+/* What each symmetry makes of a set: the image of each of its three bytes. */
+static uint32_t byte_map[SYMMETRIES][3][256];
 static uint32_t choose[POINTS + 1][MOST + 2];
-/* The rank of a set: of its lower half, and of its upper one behind so many points. */
+/* The rank of a set: of its lower half, and of its upper one above so many points. */
 static uint32_t low_rank[4096], high_rank[POINTS / 2 + 1][4096];
 
 /* The classes of the sets of so many points. */
 static struct {
     uint32_t count;
-    /* By the rank of a set: its class, and in the last four bits the symmetry that leads there. */
+    /* By the rank of a set: its class, and in the last four bits its canonicalizing symmetry. */
     uint32_t *of;
     uint32_t *representative;
     /* The symmetries that leave the representative in place, as a mask. */
@@ -102,12 +102,12 @@ static uint32_t rank(uint32_t set)
 
 static uint32_t image_of(int symmetry, uint32_t set)
 {
-    const uint32_t(*of)[256] = led[symmetry];
+    const uint32_t(*of)[256] = byte_map[symmetry];
     return of[0][set & 255] | of[1][set >> 8 & 255] | of[2][set >> 16];
 }
 
 /* The points of a set, renumbered among those of `room`. */
-static uint32_t squeezed(uint32_t set, uint32_t room)
+static uint32_t squeeze(uint32_t set, uint32_t room)
 {
 #ifdef __BMI2__
     return __builtin_ia32_pext_si(set, room);
@@ -149,7 +149,7 @@ static uint32_t set_of(uint32_t rank, int stones, int room)
 }
 
 /* The next set of as many points. */
-static uint32_t following(uint32_t set)
+static uint32_t next_set(uint32_t set)
 {
     uint32_t low = set & -set, next = set + low;
     return next | ((set ^ next) >> 2) / low;
@@ -168,8 +168,8 @@ static void prepare_board(void)
                 mills[4 * r + k / 2] = 1u << p | 1u << (p + 1) | 1u << (8 * r + (k + 2) % 8);
             }
             for (int s = 0; s < SYMMETRIES; s++) {
-                int turned = (s / 4 % 2 ? 2 * (s % 4) - k : k + 2 * (s % 4)) & 7;
-                image[s][p] = 8 * (s / 8 ? 2 - r : r) + turned;
+                int place = (s / 4 % 2 ? 2 * (s % 4) - k : k + 2 * (s % 4)) & 7;
+                image[s][p] = 8 * (s / 8 ? 2 - r : r) + place;
             }
         }
     }
@@ -209,7 +209,7 @@ static void prepare_sets(void)
         for (int part = 0; part < 3; part++) {
             for (int byte = 0; byte < 256; byte++) {
                 for (int bit = 0; bit < 8; bit++) {
-                    led[s][part][byte] |= byte >> bit & 1 ? 1u << image[s][8 * part + bit] : 0;
+                    byte_map[s][part][byte] |= byte >> bit & 1 ? 1u << image[s][8 * part + bit] : 0;
                 }
             }
         }
@@ -223,7 +223,7 @@ static void make_classes(int stones)
     classes[stones].of = room_for(sets, sizeof(uint32_t));
     classes[stones].representative = room_for(sets, sizeof(uint32_t));
     classes[stones].fixing = room_for(sets, sizeof(uint16_t));
-    for (uint32_t at = 0; at < sets; at++, set = following(set)) {
+    for (uint32_t at = 0; at < sets; at++, set = next_set(set)) {
         uint32_t least = set, first = 0, fixing = 0;
         for (int s = 0; s < SYMMETRIES; s++) {
             uint32_t it = image_of(s, set);
@@ -253,7 +253,7 @@ static uint16_t code(uint32_t own, uint32_t other)
     struct table *table = &tables[a > b ? a : b][a > b ? b : a];
     uint32_t word = classes[a].of[rank(own)], class = word >> 4;
     uint32_t room = ALL & ~classes[a].representative[class];
-    uint32_t at = class * choose[POINTS - a][b] + rank(squeezed(image_of(word & 15, other), room));
+    uint32_t at = class * choose[POINTS - a][b] + rank(squeeze(image_of(word & 15, other), room));
     return table->codes[at + (a < b ? table->half : 0)];
 }
 
@@ -265,10 +265,10 @@ static uint32_t node(uint32_t own, uint32_t other, uint32_t *fixed)
     uint32_t word = classes[a].of[rank(own)], class = word >> 4;
     uint32_t room = ALL & ~classes[a].representative[class];
     other = image_of(word & 15, other);
-    uint32_t least = rank(squeezed(other, room));
+    uint32_t least = rank(squeeze(other, room));
     *fixed = 1;
     for (uint32_t left = classes[a].fixing[class] & ~1u; left; left &= left - 1) {
-        uint32_t it = image_of(__builtin_ctz(left), other), at = rank(squeezed(it, room));
+        uint32_t it = image_of(__builtin_ctz(left), other), at = rank(squeeze(it, room));
         *fixed += it == other;
         least = at < least ? at : least;
     }
@@ -284,10 +284,10 @@ static int in_mill(uint32_t stones, int point)
 }
 
 /* Where stones of a player with so many may go from a point, or come from. */
-static uint32_t steps(int stones, int point) { return stones > 3 ? neighbours[point] : ALL; }
+static uint32_t reachable(int stones, int point) { return stones > 3 ? neighbours[point] : ALL; }
 
 /* The stones that a capture may take. */
-static uint32_t takable(uint32_t other)
+static uint32_t takable_stones(uint32_t other)
 {
     uint32_t free = 0;
     for (uint32_t left = other; left; left &= left - 1) {
@@ -307,14 +307,14 @@ static uint16_t look_ahead(uint32_t own, uint32_t other, const uint32_t *closing
     int stones = count(own), quiet = 0, won = 0, lost = 0, drawn = 0;
     for (uint32_t left = own; left; left &= left - 1) {
         int from = __builtin_ctz(left);
-        uint32_t ends = steps(stones, from) & vacant;
+        uint32_t ends = reachable(stones, from) & vacant;
         quiet += count(ends & ~closing[from]);
         for (ends &= closing[from]; ends; ends &= ends - 1) {
             if (count(other) == 3) {
                 *due = 1;
                 return NEVER;
             }
-            taken = taken ? taken : takable(other);
+            taken = taken ? taken : takable_stones(other);
             for (uint32_t it = taken; it; it &= it - 1) {
                 int found = code(other & ~(it & -it), (own & ~(left & -left)) | (ends & -ends));
                 if (found % 2) {
@@ -342,11 +342,11 @@ static void look_from(int a, int b, uint32_t class, uint32_t first)
     uint32_t fixed, closing[POINTS] = {0};
     for (uint32_t left = own; left; left &= left - 1) {
         for (uint32_t ends = room; ends; ends &= ends - 1) {
-            uint32_t moved = (own & ~(left & -left)) | (ends & -ends);
-            closing[__builtin_ctz(left)] |= in_mill(moved, __builtin_ctz(ends)) ? ends & -ends : 0;
+            uint32_t after = (own & ~(left & -left)) | (ends & -ends);
+            closing[__builtin_ctz(left)] |= in_mill(after, __builtin_ctz(ends)) ? ends & -ends : 0;
         }
     }
-    for (uint32_t i = 0; i < sets; i++, at++, numbers = following(numbers)) {
+    for (uint32_t i = 0; i < sets; i++, at++, numbers = next_set(numbers)) {
         uint32_t other = spread(numbers, room);
         if (classes[a].fixing[class] != 1 && node(own, other, &fixed) != at) {
             pair.open[at] = NEVER;
@@ -359,7 +359,7 @@ static void look_from(int a, int b, uint32_t class, uint32_t first)
     }
 }
 
-/* The position before a quiet move to a node that was decided at this depth, which this many
+/* A predecessor, by a quiet move, of a node that was decided at this depth, which this many
  * symmetries leave in place. */
 static void reach(uint32_t own, uint32_t other, uint32_t fixed_after, int depth)
 {
@@ -372,15 +372,15 @@ static void reach(uint32_t own, uint32_t other, uint32_t fixed_after, int depth)
         }
         return;
     }
-    /* It has as many moves to images of the node as there are positions before the node's own that
-     * are images of it, times how many symmetries fix it, divided by how many fix the node's. */
+    /* It has as many moves to images of the node as the node's position has predecessors that are
+     * images of it, times how many symmetries fix it, divided by how many fix the node's. */
     uint16_t by = SYMMETRIES * fixed / fixed_after;
     if (pair.open[at] != NEVER && __atomic_sub_fetch(&pair.open[at], by, __ATOMIC_RELAXED) == 0) {
         push(&pair.later[thread][pair.due[at] > depth + 1 ? pair.due[at] : depth + 1], at);
     }
 }
 
-/* Goes back from a node that was decided at this depth. */
+/* Reaches the predecessors of a node that was decided at this depth. */
 static void go_back(uint32_t at, int depth)
 {
     int is_first = at < pair.table->half, a = is_first ? pair.greater : pair.lesser;
@@ -395,7 +395,7 @@ static void go_back(uint32_t at, int depth)
         if (in_mill(other, to)) {
             continue;
         }
-        for (uint32_t from = steps(b, to) & vacant; from; from &= from - 1) {
+        for (uint32_t from = reachable(b, to) & vacant; from; from &= from - 1) {
             reach((other & ~(ends & -ends)) | (from & -from), own, fixed, depth);
         }
     }
@@ -443,7 +443,7 @@ static void fill(int a, int b, uint32_t first)
         if (classes[a].fixing[class] == 1) {
             continue;
         }
-        for (uint32_t i = 0; i < sets; i++, numbers = following(numbers)) {
+        for (uint32_t i = 0; i < sets; i++, numbers = next_set(numbers)) {
             uint32_t it = node(own, spread(numbers, ALL & ~own), &fixed);
             pair.table->codes[first + class * sets + i] = pair.table->codes[it];
         }
@@ -510,7 +510,7 @@ static const uint32_t first_state[8] = {
 };
 static uint32_t state[8];
 
-static uint32_t turned(uint32_t word, int by) { return word >> by | word << (32 - by); }
+static uint32_t rotate(uint32_t word, int by) { return word >> by | word << (32 - by); }
 
 /* A block of 64 bytes more. */
 static void digest_block(const uint8_t *bytes)
@@ -521,16 +521,16 @@ static void digest_block(const uint8_t *bytes)
     }
     for (int i = 16; i < 64; i++) {
         uint32_t a = words[i - 15], b = words[i - 2];
-        words[i] = words[i - 16] + (turned(a, 7) ^ turned(a, 18) ^ a >> 3) + words[i - 7]
-            + (turned(b, 17) ^ turned(b, 19) ^ b >> 10);
+        words[i] = words[i - 16] + (rotate(a, 7) ^ rotate(a, 18) ^ a >> 3) + words[i - 7]
+            + (rotate(b, 17) ^ rotate(b, 19) ^ b >> 10);
     }
     uint32_t a = state[0], b = state[1], c = state[2], d = state[3];
     uint32_t e = state[4], f = state[5], g = state[6], h = state[7];
     for (int i = 0; i < 64; i++) {
         uint32_t one = h + ((e & f) ^ (~e & g)) + constants[i] + words[i];
         uint32_t two = (a & b) ^ (a & c) ^ (b & c);
-        one += turned(e, 6) ^ turned(e, 11) ^ turned(e, 25);
-        two += turned(a, 2) ^ turned(a, 13) ^ turned(a, 22);
+        one += rotate(e, 6) ^ rotate(e, 11) ^ rotate(e, 25);
+        two += rotate(a, 2) ^ rotate(a, 13) ^ rotate(a, 22);
         h = g, g = f, f = e, e = d + one, d = c, c = b, b = a, a = one + two;
     }
     state[0] += a, state[1] += b, state[2] += c, state[3] += d;

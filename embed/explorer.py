@@ -89,7 +89,7 @@ class Refusal(Exception):
     def __init__(self, status: int, error: str, **more: object) -> None:
         super().__init__(error)
         self.status = status
-        self.told = {"error": error, **more}
+        self.answer = {"error": error, **more}
 
 
 class NoTables(Exception):
@@ -138,7 +138,7 @@ class Shelf:
         return (max(own, other - 1), min(own, other - 1)) if pair in pairs else pair
 
 
-def _told(value: morris.Value) -> Dict[str, object]:
+def _value_fields(value: morris.Value) -> Dict[str, object]:
     return {
         "result": str(value.kind),
         "depth": None if value.kind == morris.Kind.DRAW else value.depth,
@@ -178,15 +178,15 @@ class Explorer:
         if path not in self.requests:
             raise Refusal(404, "there is nothing here")
         call, needed, allowed = self.requests[path]
-        words = _words(query)
-        for name in words:
+        parameters = _parameters(query)
+        for name in parameters:
             if name not in f"{needed} {allowed}".split():
                 raise Refusal(400, f"{name!a} isn't asked for here")
         for name in needed.split():
-            if name not in words:
+            if name not in parameters:
                 raise Refusal(400, f"{name} is missing")
         try:
-            return call(**words)
+            return call(**parameters)
         except (Unreadable, morris.Fault) as error:
             raise Refusal(500, f"a file is refused: {error}") from None
 
@@ -216,7 +216,7 @@ class Explorer:
             "text": text,
             "own": own,
             "other": other,
-            **_told(value),
+            **_value_fields(value),
             "moves": [
                 {
                     "move": str(it.move),
@@ -224,7 +224,7 @@ class Explorer:
                     "to": it.move.end,
                     "taken": it.move.taken,
                     "next": _after(text, it.move),
-                    **_told(it.value),
+                    **_value_fields(it.value),
                     "best": it.value == value,
                 }
                 for it in moves
@@ -257,14 +257,14 @@ class Explorer:
         own, other = (table.board.image(symmetry, it) for it in table.position(entry))
         text = table.board.text(own, other)
         found = _in_words(table.codes(entry, entry + 1)[0])
-        if _told(self.shelves[board].value(text)) != found:
+        if _value_fields(self.shelves[board].value(text)) != found:
             raise Refusal(500, "the file and the library disagree on a position")
         return {**answer, "done": True, "text": text, **found}
 
     def count(self, board: str, pair: str) -> Dict[str, object]:
         table = self._file(board, pair)
-        told = self.counts.ask(self.shelves[board].file_name(table.pair), table)
-        return {"board": board, "pair": pair_name(table.pair), "entries": table.entries, **told}
+        counts = self.counts.ask(self.shelves[board].file_name(table.pair), table)
+        return {"board": board, "pair": pair_name(table.pair), "entries": table.entries, **counts}
 
     def _shelf(self, board: str) -> Shelf:
         if board not in self.shelves:
@@ -281,12 +281,12 @@ class Explorer:
 
     def _missing(self, shelf: Shelf, pair: Pair) -> Refusal:
         name = pair_name(pair)
-        words = f"./morris build {shelf.name} {name} --classes --into {shlex.quote(self.folder)}"
-        return Refusal(404, f"there is no table of {name}", pair=name, command=words)
+        command = f"./morris build {shelf.name} {name} --classes --into {shlex.quote(self.folder)}"
+        return Refusal(404, f"there is no table of {name}", pair=name, command=command)
 
 
-def _words(query: str) -> Dict[str, str]:
-    """The names of a query, each with its word. A name comes once."""
+def _parameters(query: str) -> Dict[str, str]:
+    """The parameters of a query by their names. A name comes once."""
     if not query:
         return {}
     try:
@@ -295,10 +295,10 @@ def _words(query: str) -> Dict[str, str]:
         )
     except ValueError:
         raise Refusal(400, "the query isn't one") from None
-    words = dict(found)
-    if len(words) != len(found):
+    parameters = dict(found)
+    if len(parameters) != len(found):
         raise Refusal(400, "a name of the query comes twice")
-    return words
+    return parameters
 
 
 def _read_pair(text: str) -> Pair:
@@ -315,7 +315,7 @@ def _number(name: str, word: str, most: int = 2**32 - 1) -> int:
 
 
 def _read_text(text: str, board: Board) -> Pair:
-    """How many stones the player to move has in a text, and how many the opponent."""
+    """How many stones the player to move has in a position string, and how many the opponent."""
     if len(text) != board.points or text.strip("XO."):
         raise Refusal(400, f"the text isn't {board.points} characters X, O and .")
     own, other = text.count("X"), text.count("O")
@@ -365,7 +365,7 @@ class Handler(http.server.BaseHTTPRequestHandler):
         return "Morris"
 
     def log_request(self, code: Any = "-", size: Any = "-") -> None:
-        """Nothing is told of requests."""
+        """Requests aren't logged."""
 
     def handle_expect_100(self) -> bool:
         return True
@@ -389,7 +389,7 @@ class Handler(http.server.BaseHTTPRequestHandler):
                 traceback.print_exc()
                 refusal = Refusal(500, "the explorer failed")
             self.close_connection = True
-            self._tell(refusal.status, refusal.told)
+            self._send_json(refusal.status, refusal.answer)
             self._read_rest()
         except GONE:
             self.close_connection = True
@@ -406,12 +406,12 @@ class Handler(http.server.BaseHTTPRequestHandler):
             kind, body = self.server.pages[path]
             return self._send(200, f"{kind}; charset=utf-8", body)
         try:
-            self._tell(200, self.server.explorer.answer(path, query))
+            self._send_json(200, self.server.explorer.answer(path, query))
         except Refusal as refusal:
-            self._tell(refusal.status, refusal.told)
+            self._send_json(refusal.status, refusal.answer)
 
-    def _tell(self, status: int, told: Dict[str, object]) -> None:
-        self._send(status, "application/json", json.dumps(told, separators=(",", ":")).encode())
+    def _send_json(self, status: int, answer: Dict[str, object]) -> None:
+        self._send(status, "application/json", json.dumps(answer, separators=(",", ":")).encode())
 
     def _read_head(self) -> bytes:
         """The head of the next request: nothing, where the client has none."""
@@ -450,12 +450,12 @@ class Handler(http.server.BaseHTTPRequestHandler):
     def _parse(self, head: bytes) -> None:
         line, _, rest = head.partition(b"\n")
         self.raw_requestline = line + b"\n"
-        kept, self.rfile = self.rfile, io.BytesIO(rest)
+        connection, self.rfile = self.rfile, io.BytesIO(rest)
         try:
             if not self.parse_request():
                 raise Refusal(400, "bad request")
         finally:
-            self.rfile = kept
+            self.rfile = connection
 
     def _check(self) -> None:
         """Refuses a request that isn't for this server, or more than a question."""
@@ -542,7 +542,7 @@ class Server(http.server.ThreadingHTTPServer):
             self.seats.release()
 
     def handle_error(self, request: Any, client_address: Any) -> None:
-        """A client that goes away is nothing to tell of."""
+        """A client that goes away is no error."""
         if not isinstance(sys.exc_info()[1], OSError):
             super().handle_error(request, client_address)
 
@@ -560,7 +560,7 @@ def read_pages() -> Dict[str, Tuple[str, bytes]]:
 # ---- the command line
 
 
-def _options(words: Optional[Sequence[str]]) -> argparse.Namespace:
+def _options(arguments: Optional[Sequence[str]]) -> argparse.Namespace:
     parser = argparse.ArgumentParser(
         prog="explorer.py", description="Shows positions in a browser, and what each move is worth."
     )
@@ -570,15 +570,15 @@ def _options(words: Optional[Sequence[str]]) -> argparse.Namespace:
         "--port", type=int, default=PORT, metavar="N", help=f"{PORT} if left out, 0: any free one"
     )
     parser.add_argument("--no-browser", action="store_true", help="open no browser")
-    found = parser.parse_args(words)
+    found = parser.parse_args(arguments)
     if not 0 <= found.port <= 65_535:
         parser.error("a port is a number from 0 to 65535")
     return found
 
 
-def main(words: Optional[Sequence[str]] = None) -> int:
+def main(arguments: Optional[Sequence[str]] = None) -> int:
     """Serves until it is interrupted. Answers the exit status."""
-    options = _options(words)
+    options = _options(arguments)
     try:
         server = Server(Explorer(options.folder, options.board), options.port)
     except NoTables as error:

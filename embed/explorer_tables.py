@@ -26,11 +26,11 @@ __all__ = ["BOARDS", "Board", "Counts", "Pair", "TableFile", "Unreadable", "pair
 
 # How many entries are looked at in a row while the other threads wait, and for how many seconds a
 # count then lets them go on.
-STRIDE = 16_384
+CHUNK = 16_384
 PAUSE_SECONDS = 0.0002
-# For how many seconds a search goes on before it tells how far it came.
+# For how many seconds a search goes on before it says how far it came.
 SEARCH_SECONDS = 0.5
-# What is kept beside the tables, and how many bytes of it are read.
+# What is stored beside the tables, and how many bytes of it are read.
 COUNTS = ".counts.json"
 MOST_OF_COUNTS = 1 << 24
 HEADER, DIGEST = 16, 32
@@ -49,8 +49,8 @@ class Unreadable(Exception):
 def _nine_image(symmetry: int, point: int) -> int:
     """Four turns, four mirrors, and the same with the inner and the outer ring exchanged."""
     ring, place = divmod(point, 8)
-    turned = 2 * (symmetry % 4) + (-place if symmetry // 4 % 2 else place)
-    return 8 * (2 - ring if symmetry >= 8 else ring) + turned % 8
+    place = 2 * (symmetry % 4) + (-place if symmetry // 4 % 2 else place)
+    return 8 * (2 - ring if symmetry >= 8 else ring) + place % 8
 
 
 def _grid_image(symmetry: int, point: int) -> int:
@@ -99,15 +99,15 @@ class Board:
 
     @functools.lru_cache(maxsize=None)
     def all_sets(self, count: int) -> Tuple[Sequence[int], Sequence[int]]:
-        """The sets of so many points in ascending order, and for each how many it stands for."""
+        """The sets of so many points in ascending order, and for each its orbit size, here 1."""
         sets = array("I", self._sets(count, range(1 << max(self.points - 16, 0))))
         return sets, bytes([1]) * len(sets)
 
     @functools.lru_cache(maxsize=None)
-    def least_sets(self, count: int) -> Tuple[Sequence[int], Sequence[int]]:
-        """The sets of so many points none of whose images is less, in ascending order, and for each
-        how many different images it has."""
-        sets, weights = array("I"), bytearray()
+    def canonical_sets(self, count: int) -> Tuple[Sequence[int], Sequence[int]]:
+        """The sets of so many points in canonical form, none of whose images is less, in ascending
+        order, and for each its orbit size: how many different images it has."""
+        sets, orbit_sizes = array("I"), bytearray()
         tables = self._tables
         # Without the exchange of rings, the highest 8 points have their images among themselves.
         own = [it[2] for it in tables[:8]] if self.points > 16 else []
@@ -125,8 +125,8 @@ class Board:
                 same += image == mask
             else:
                 sets.append(mask)
-                weights.append(len(tables) // same)
-        return sets, bytes(weights)
+                orbit_sizes.append(len(tables) // same)
+        return sets, bytes(orbit_sizes)
 
     def chosen(self, own: int, count: int, rank: int) -> int:
         """The set of so many points outside `own` that has this rank in ascending order."""
@@ -141,7 +141,7 @@ class Board:
         return mask
 
     def text(self, own: int, other: int) -> str:
-        """The text of a position, from the masks of the player to move and of the opponent."""
+        """The position string, from the masks of the player to move and of the opponent."""
         return "".join(
             "X" if own >> p & 1 else "O" if other >> p & 1 else "." for p in range(self.points)
         )
@@ -159,25 +159,25 @@ def pair_name(pair: Pair) -> str:
 
 class Half(NamedTuple):
     """The entries of a table in which the player to move has `own` stones, from `first` on: `row`
-    entries for each of `sets`, whose positions each stand for as many as `weights` says."""
+    entries for each of `sets`, each entry with as many positions as `orbit_sizes` says."""
 
     own: int
     other: int
     first: int
     row: int
     sets: Sequence[int]
-    weights: Sequence[int]
+    orbit_sizes: Sequence[int]
 
     @property
     def end(self) -> int:
         return self.first + self.row * len(self.sets)
 
     def runs(self) -> Iterator[Tuple[int, int, int]]:
-        """The weights, each with its first entry and with the one past its last."""
+        """The orbit sizes, each with its first entry and with the one past its last."""
         first = self.first
-        for weight, those in itertools.groupby(self.weights):
+        for orbit_size, those in itertools.groupby(self.orbit_sizes):
             end = first + self.row * sum(1 for _ in those)
-            yield weight, first, end
+            yield orbit_size, first, end
             first = end
 
 
@@ -211,7 +211,7 @@ class TableFile:
     def halves(self) -> List[Half]:
         """The halves of the table: that of the greater number of stones to move comes first."""
         greater, lesser = self.pair
-        sets = self.board.all_sets if self.version == 1 else self.board.least_sets
+        sets = self.board.all_sets if self.version == 1 else self.board.canonical_sets
         found: List[Half] = []
         for own, other in dict.fromkeys([(greater, lesser), (lesser, greater)]):
             first = found[-1].end if found else 0
@@ -234,11 +234,11 @@ class TableFile:
             return None, self.entries
         while done < self.entries and time.monotonic() < deadline:
             first = (start + done) % self.entries
-            end = min(first + STRIDE, self.entries, first + self.entries - done)
+            end = min(first + CHUNK, self.entries, first + self.entries - done)
             here = self.codes(first, end)
             if not wanted.isdisjoint(here):
-                ahead = next(place for place, code in enumerate(here) if code in wanted)
-                return first + ahead, done + ahead
+                offset = next(place for place, code in enumerate(here) if code in wanted)
+                return first + offset, done + offset
             done += end - first
         return None, done
 
@@ -255,26 +255,26 @@ class TableFile:
 
 
 def count_half(
-    table: TableFile, half: Half, tell: Callable[[int], None]
+    table: TableFile, half: Half, report: Callable[[int], None]
 ) -> Tuple[Dict[int, int], Dict[int, int]]:
-    """How many positions have each code, and the first entry that has it. It tells of how many
-    entries it has gone through since it told before."""
+    """How many positions have each code, and the first entry that has it. It reports how many
+    entries it has gone through since its last report."""
     counts: Dict[int, int] = Counter()
     firsts: Dict[int, int] = {}
-    for weight, first, end in half.runs():
-        for at in range(first, end, STRIDE):
-            codes = table.codes(at, min(at + STRIDE, end))
+    for orbit_size, first, end in half.runs():
+        for at in range(first, end, CHUNK):
+            codes = table.codes(at, min(at + CHUNK, end))
             for code, count in Counter(codes).items():
-                counts[code] += weight * count
+                counts[code] += orbit_size * count
                 if code not in firsts:
                     firsts[code] = at + codes.index(code)
-            tell(len(codes))
+            report(len(codes))
     return counts, firsts
 
 
-def count_side(table: TableFile, half: Half, tell: Callable[[int], None]) -> Dict[str, object]:
-    """What is told of the positions in which one side of a pair is to move."""
-    counts, firsts = count_half(table, half, tell)
+def count_side(table: TableFile, half: Half, report: Callable[[int], None]) -> Dict[str, object]:
+    """The counts of the positions in which one side of a pair is to move."""
+    counts, firsts = count_half(table, half, report)
     side: Dict[str, object] = {
         "own": half.own,
         "other": half.other,
@@ -292,20 +292,20 @@ def count_side(table: TableFile, half: Half, tell: Callable[[int], None]) -> Dic
 
 
 class Counts:
-    """Counts tables in the background, one after the other, and keeps what it found in a file
+    """Counts tables in the background, one after the other, and stores what it found in a file
     beside them, each with the digest of its table."""
 
     def __init__(self, folder: str) -> None:
         self.path = os.path.join(folder, COUNTS)
         self.lock = threading.Lock()
-        self.kept = self._read()
+        self.stored = self._read()
         self.done: Dict[str, int] = {}
         self.waiting: "queue.Queue[Tuple[str, TableFile]]" = queue.Queue()
         self.worker: Optional[threading.Thread] = None
 
     def _read(self) -> Dict[str, Any]:
-        """What a file keeps, by the names of table files. One that isn't as this program writes it
-        is passed over."""
+        """What the file stores, by the names of table files. One that isn't as this program writes
+        it is passed over."""
         try:
             if not os.path.isfile(self.path) or os.path.getsize(self.path) > MOST_OF_COUNTS:
                 return {}
@@ -327,9 +327,9 @@ class Counts:
         sets the count going."""
         table.check()
         with self.lock:
-            kept = self.kept.get(name)
-            if kept and kept.get("digest") == table.digest:
-                return {"done": True, "counted": table.entries, "sides": kept["sides"]}
+            stored = self.stored.get(name)
+            if stored and stored.get("digest") == table.digest:
+                return {"done": True, "counted": table.entries, "sides": stored["sides"]}
             if name not in self.done:
                 self.done[name] = 0
                 self.waiting.put((name, table))
@@ -341,14 +341,14 @@ class Counts:
     def _work(self) -> None:
         while True:
             name, table = self.waiting.get()
-            tell = functools.partial(self._tell, name)
-            sides = [count_side(table, it, tell) for it in table.halves]
+            report = functools.partial(self._report, name)
+            sides = [count_side(table, it, report) for it in table.halves]
             with self.lock:
-                self.kept[name] = {"digest": table.digest, "sides": sides}
+                self.stored[name] = {"digest": table.digest, "sides": sides}
                 del self.done[name]
-            self._write(name, self.kept[name])
+            self._write(name, self.stored[name])
 
-    def _tell(self, name: str, entries: int) -> None:
+    def _report(self, name: str, entries: int) -> None:
         """Notes how far a count is, and lets the threads go on that answer."""
         with self.lock:
             self.done[name] += entries

@@ -36,7 +36,7 @@
  * MORRIS_OTHER_PAIR. And with a handle a file goes by its name: what has the name of a pair's file
  * and isn't its table is refused by the calls that need the pair, which the library of that archive
  * answered with MORRIS_NO_TABLE, as if there were none; and `morris_has` answers 1. A file that the
- * system refuses no longer keeps `morris_open` from opening the others. */
+ * system refuses no longer prevents `morris_open` from opening the others. */
 #ifndef MORRIS_H
 #define MORRIS_H
 
@@ -152,7 +152,7 @@ typedef struct morris_fault {
     const char *text; /* all of it in a line of English, as `T/nine-4-4.nmmt: file is too short` */
 } morris_fault;
 
-/* Tells why the last of this thread's calls of "open tables" failed that did: each of these calls
+/* Says why the last of this thread's calls of "open tables" failed that did: each of these calls
  * that answers another status than MORRIS_OK notes it for the thread that made it, and one that
  * answers MORRIS_OK leaves what was noted. So ask after a call that failed, in the same thread. If
  * a table is missing, there is a pair and no path; if a file is damaged, or the system refuses it,
@@ -171,8 +171,8 @@ const morris_fault *morris_last_fault(void);
  * folders, as in `tables:/usr/share/morris`: each pair's file is taken from the first folder that
  * has it, and folders without files are skipped. Links are followed. Only headers are looked at
  * here. If a file is of version 2, opening takes some hundredths of a second and 1.4 MB of memory.
- * The system is told that files are read here and there (POSIX_MADV_RANDOM), so that a value of a
- * file that isn't in memory has a page or two of it read, and nothing around.
+ * The system is advised that files are read here and there (POSIX_MADV_RANDOM), so that for a value
+ * of a file that isn't in memory a page or two is read, and nothing around.
  *
  * Returns null if it opens nothing, and `*status`, unless `status` is null, says why: MORRIS_OK;
  * MORRIS_NO_BOARD; MORRIS_NO_TABLE if there is none of these files; or MORRIS_SYSTEM, and errno
@@ -254,8 +254,8 @@ int32_t morris_legal_moves(uint32_t board, uint32_t own, uint32_t other, morris_
 size_t morris_prepare_size(uint32_t board);
 
 /* Fills `words` with what files of version 2 need for a board. `room` is how many words there are,
- * at least `morris_prepare_size(board)`; the rest keep what they have. Each version of the library
- * has words of its own, the same each time: prepare words that you keep again for another version,
+ * at least `morris_prepare_size(board)`; the rest doesn't change. Each version of the library has
+ * words of its own, the same each time: prepare words that you store anew for another version,
  * which could read them wrongly. A program that has only files of version 1 needs no words, and
  * passes none (`m` is 0).
  *

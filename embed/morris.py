@@ -9,12 +9,12 @@
             print(move, value, tables.play(position, move))
         print(tables.choose(position))
 
-A position is a text with a character for each point of the board, in order: `X` for a stone of
+A position is a string with a character for each point of the board, in order: `X` for a stone of
 the player to move, `O` for one of the opponent, `.` for a vacant point. Or it is a pair of masks,
 of the stones of the player to move and of the opponent's, in which bit p stands for point p.
 
 The values are those that the files state: `morris verify BOARD --from FOLDER`, run once before,
-tells whether they are right. The files are mapped, not copied, so any threads may ask the same
+says whether they are right. The files are mapped, not copied, so any threads may ask the same
 `Tables`, and processes that open the same folder share the memory. A file that somebody cuts short
 or changes while it is open may end the program (by the signal SIGBUS), or give wrong values: files
 are replaced by renaming, as `morris build` does.
@@ -25,7 +25,7 @@ In a clone of Morris the shared library is the one that `make -C embed` made, if
 sources as the clone, or else the one in the archive in `release/`, if that is. Elsewhere
 `libmorris.so.1` is looked for beside this file, in the folder `out` there, in the folder `lib` of a
 release or of the place to which this file was installed, and then where the system looks. The
-environment variable `MORRIS_LIBRARY` names another. `library` tells which one was taken.
+environment variable `MORRIS_LIBRARY` names another. `library` says which one was taken.
 """
 
 from __future__ import annotations
@@ -85,7 +85,7 @@ _MOST_MOVES = 1944
 _STONES = range(3, 10)
 
 Position = Union[str, Tuple[int, int], List[int]]
-"""A text, or the mask of the player to move and the one of the opponent."""
+"""A position string, or the mask of the player to move and the one of the opponent."""
 
 Folder = Union[str, bytes, "os.PathLike[str]", "os.PathLike[bytes]"]
 """The path of a folder, or of several with colons between them."""
@@ -145,7 +145,7 @@ class _Fault(ctypes.Structure):
     ]
 
 
-# A text with these in place of its characters is the mask of a player, as binary digits.
+# A position string with these in place of its characters is the mask of a player, as binary digits.
 _OWN = str.maketrans("XO.", "100")
 _OTHER = str.maketrans("XO.", "010")
 
@@ -224,7 +224,7 @@ class Value(NamedTuple):
     def __str__(self) -> str:
         return "draw" if self.kind == Kind.DRAW else f"{Kind(self.kind)} in {self.depth}"
 
-    def _worth(self) -> float:
+    def _score(self) -> float:
         if self.kind == Kind.DRAW:
             return 0
         return (1 if self.kind == Kind.WON else -1) / (1 + self.depth)
@@ -232,22 +232,22 @@ class Value(NamedTuple):
     def __lt__(self, other: object) -> bool:
         if not isinstance(other, Value):
             return NotImplemented
-        return self._worth() < other._worth()
+        return self._score() < other._score()
 
     def __le__(self, other: object) -> bool:
         if not isinstance(other, Value):
             return NotImplemented
-        return self._worth() <= other._worth()
+        return self._score() <= other._score()
 
     def __gt__(self, other: object) -> bool:
         if not isinstance(other, Value):
             return NotImplemented
-        return self._worth() > other._worth()
+        return self._score() > other._score()
 
     def __ge__(self, other: object) -> bool:
         if not isinstance(other, Value):
             return NotImplemented
-        return self._worth() >= other._worth()
+        return self._score() >= other._score()
 
 
 class Move(NamedTuple):
@@ -259,7 +259,7 @@ class Move(NamedTuple):
 
     @classmethod
     def read(cls, text: str) -> Move:
-        """The move that a text such as `3-2` or `3-2x22` shows. Raises `ValueError` for another."""
+        """The move that a string such as `3-2` or `3-2x22` shows. Raises `ValueError` otherwise."""
         found = re.fullmatch(r"([0-9]{1,2})-([0-9]{1,2})(?:x([0-9]{1,2}))?", text)
         if found is None:
             raise ValueError(f"no move, such as 3-2 or 3-2x22: {reprlib.repr(text)}")
@@ -421,15 +421,15 @@ def _answered(status: int) -> None:
     """Raises the fault of a call over tables, which the library noted, where it is one."""
     if status == Status.OK:
         return
-    told = _library().morris_last_fault().contents
-    pair = told.greater, told.lesser
-    if told.status != status or not any(pair):
+    fault = _library().morris_last_fault().contents
+    pair = fault.greater, fault.lesser
+    if fault.status != status or not any(pair):
         raise Fault(status)
-    if told.path is None:
+    if fault.path is None:
         raise MissingTable(pair)
-    path = os.fsdecode(told.path)
+    path = os.fsdecode(fault.path)
     if status == Status.SYSTEM:
-        raise Unreadable(told.system, pair, path)
+        raise Unreadable(fault.system, pair, path)
     raise Damaged(status, pair, path)
 
 
@@ -500,8 +500,9 @@ def play(position: str, move: Union[Move, str], board: str = "nine") -> str: ...
 @overload
 def play(position: Position, move: Union[Move, str], board: str = "nine") -> Position: ...
 def play(position: Position, move: Union[Move, str], board: str = "nine") -> Position:
-    """The position after a legal move, in which the other player is to move: a text where a text is
-    given, and else two masks. The move may be a text such as `3-2` or `3-2x22`. Needs no tables.
+    """The position after a legal move, in which the other player is to move: a string where a
+    string is given, and else two masks. The move may be a string such as `3-2` or `3-2x22`. Needs
+    no tables.
 
     Raises `Fault` with ILLEGAL where the move isn't legal, with OVERLAP or STONES where no position
     is like that; `ValueError` and `TypeError` for what is no position of the board, or no move."""
@@ -552,9 +553,9 @@ class Tables:
         if status.value == Status.NO_TABLE:
             raise FileNotFoundError(errno.ENOENT, "no table files of the board", os.fspath(folder))
         if status.value == Status.SYSTEM:
-            told = _library().morris_last_fault().contents
-            at = os.fspath(folder) if told.path in (None, path) else os.fsdecode(told.path)
-            raise OSError(told.system, os.strerror(told.system), at)
+            fault = _library().morris_last_fault().contents
+            at = os.fspath(folder) if fault.path in (None, path) else os.fsdecode(fault.path)
+            raise OSError(fault.system, os.strerror(fault.system), at)
         _done(status.value)
         assert handle is not None
         self._files: Optional[_Files] = _Files(handle)
@@ -601,12 +602,12 @@ class Tables:
     def value(self, position: Position) -> Value:
         """The value of a position for the player to move.
 
-        Raises `TypeError` for what is neither a text nor a tuple or list of ints; `ValueError` for
-        a text or masks that don't fit the board, and where the tables are closed; `Fault` with
-        OVERLAP or STONES where no position is like that; `MissingTable` where no file has its pair;
-        `Damaged` where what has the name of that file isn't its table, with SHORT, MAGIC, VERSION,
-        OTHER_BOARD, COUNTS, CROWDED, ENTRIES, TRAILING or OTHER_PAIR; and `Unreadable` where the
-        system refused that file. All three are `Fault`."""
+        Raises `TypeError` for what is neither a string nor a tuple or list of ints; `ValueError`
+        for a string or masks that don't fit the board, and where the tables are closed; `Fault`
+        with OVERLAP or STONES where no position is like that; `MissingTable` where no file has its
+        pair; `Damaged` where what has the name of that file isn't its table, with SHORT, MAGIC,
+        VERSION, OTHER_BOARD, COUNTS, CROWDED, ENTRIES, TRAILING or OTHER_PAIR; and `Unreadable`
+        where the system refused that file. All three are `Fault`."""
         out = _Value()
         _answered(self._status("morris_value_of", position, out))
         return _value(out)
@@ -641,7 +642,7 @@ class Tables:
     def choose(self, position: Position) -> Optional[Outcome]:
         """One of the best moves, or None where the game is over. Of several that win or lose it is
         the first; of several that keep a draw the first of those after which the opponent has the
-        fewest moves that keep it too. A table tells no draw from another: this is a rule of thumb.
+        fewest moves that keep it too. A table doesn't rank draws: this is a rule of thumb.
 
         Raises what `value` and `moves` raise, for the position and for those that drawing moves
         lead to, and `Fault` with DISAGREE where the files say of the position what doesn't follow
@@ -679,8 +680,8 @@ class Tables:
         """Reads all files. Raises `Damaged` at the first that is damaged: with SHORT, MAGIC,
         VERSION, OTHER_BOARD, COUNTS, CROWDED, ENTRIES, TRAILING or OTHER_PAIR for its header and
         length, with DIGEST for its digest; `Unreadable` where the system refused it; and
-        `ValueError` where the tables are closed. Whether the values of a file are right, only
-        `morris verify` tells: whoever writes it can write the digest of any values."""
+        `ValueError` where the tables are closed. Only `morris verify` says whether the values of a
+        file are right: whoever writes it can write the digest of any values."""
         _answered(self._damage())
 
     def _damage(self) -> int:
@@ -699,6 +700,6 @@ def open_tables(folder: Folder, board: str = "nine") -> Tables:
 
     Raises `FileNotFoundError` where there are none; another `OSError` where the system refuses a
     folder or each of the files, where nothing that has such a name is a regular file, and where the
-    shared library isn't found;
-    `ValueError` for another board, or a path with a NUL byte; `TypeError` for what is no path."""
+    shared library isn't found; `ValueError` for another board, or a path with a NUL byte;
+    `TypeError` for what is no path."""
     return Tables(folder, board)

@@ -22,7 +22,7 @@ static void make_empty(morris_folder *folder) {
     folder->m = 0;
 }
 
-/* Closes a file, and keeps what errno says. */
+/* Closes a file, and leaves errno as it was. */
 static void close_file(int file) {
     int why = errno;
     close(file);
@@ -67,7 +67,7 @@ int morris_map_file(const char *name, morris_view *view) {
     if (bytes == MAP_FAILED) {
         return -1;
     }
-    /* Look-ups go here and there: what stands around their bytes isn't worth reading. */
+    /* Look-ups go here and there: what stands around their bytes needn't be read. */
     posix_madvise(bytes, (size_t)about.st_size, POSIX_MADV_RANDOM);
     view->bytes = bytes;
     view->len = (size_t)about.st_size;

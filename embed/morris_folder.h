@@ -31,9 +31,9 @@ typedef struct morris_folder {
  * them: nine-3-3.nmmt, nine-4-3.nmmt and so on to nine-9-9.nmmt, or grid-3-3.nmmt and so on. Files
  * that aren't there are left out. Links are followed. If a file is of version 2, words are
  * prepared, which takes some hundredths of a second and 4 bytes of memory a word. The files aren't
- * looked into here: calls that read one test its header. The system is told that they are read here
- * and there (POSIX_MADV_RANDOM): before you read one from end to end, as by `morris_digest`, tell it
- * so by `posix_madvise`.
+ * looked into here: calls that read one test its header. The system is advised that they are read
+ * here and there (POSIX_MADV_RANDOM): before you read one from end to end, as by `morris_digest`,
+ * advise it of that by `posix_madvise`.
  *
  * Returns MORRIS_OK; MORRIS_NO_BOARD; MORRIS_NO_TABLE if the folder has none of these files; or
  * MORRIS_SYSTEM, and errno says why a file couldn't be opened or mapped, or memory was refused:

@@ -47,7 +47,7 @@ const char *morris_version(void) {
 
 /* ---- opening and closing */
 
-/* Divides a path at its colons, where it names nothing that is there, and tells how many parts it
+/* Divides a path at its colons, where it names nothing that is there, and says how many parts it
  * has. Each ends with a zero. */
 static size_t divide(char *path) {
     struct stat about;
@@ -111,8 +111,8 @@ static void note_file(morris_tables *tables, struct file *file) {
     }
 }
 
-/* Opens what has a pair's name in a folder, if anything has. A file that the system refuses is kept
- * as one that is refused: unless the folder itself is, that is its pair's fault alone. */
+/* Opens what has a pair's name in a folder, if anything has. A file that the system refuses is
+ * noted as refused: unless the folder itself is refused, that is its pair's fault alone. */
 static int32_t open_file(morris_tables *tables, const char *folder, int greater, int lesser) {
     struct file *file = &tables->files[tables->n];
     char name[MORRIS_PATH];
@@ -280,8 +280,8 @@ static uint32_t count_of(uint32_t set) {
     return set * 0x01010101u >> 24;
 }
 
-/* Puts the file of a pair behind the first `n` of those that a call is handed, where there is one,
- * and tells how many there are then. A call is handed no others than those that it may read, so
+/* Puts the file of a pair after the first `n` of those that a call is handed, where there is one,
+ * and says how many there are then. A call is handed no others than those that it may read, so
  * that it needn't look for these among all. */
 static size_t with_file(const morris_view *file, morris_view *files, size_t n) {
     if (file != NULL) {
@@ -329,7 +329,7 @@ int32_t morris_value_of(const morris_tables *tables, uint32_t own, uint32_t othe
                : fail_of_pair(tables, status, count_of(own), count_of(other));
 }
 
-/* Notes the first move of a position whose value can't be told, where the moves were refused with a
+/* Notes the first move of a position that has no value, where the moves were refused with a
  * status. They are listed once more, into the same places. */
 static int32_t fail_of_moves(const morris_tables *tables, int32_t status, uint32_t own,
                              uint32_t other, morris_move *out, size_t room) {
@@ -362,7 +362,7 @@ int32_t morris_moves_of(const morris_tables *tables, uint32_t own, uint32_t othe
     return status == MORRIS_OK ? status : fail_of_moves(tables, status, own, other, out, room);
 }
 
-/* Tells the system in what order a file's bytes will be read. */
+/* Advises the system in what order a file's bytes will be read. */
 static void advise(const morris_view *file, int advice) {
     if (file->len > 0) {
         posix_madvise((void *)(uintptr_t)file->bytes, file->len, advice);
@@ -398,8 +398,8 @@ int32_t morris_check_tables(const morris_tables *tables) {
 
 /* ---- choosing a move */
 
-/* How good a value is for the player who has it: sooner wins and later losses are better. */
-static int32_t worth(morris_value value) {
+/* How good a value is for the player who has it: sooner wins and later losses score higher. */
+static int32_t score(morris_value value) {
     int32_t most = UINT16_MAX + 1;
     switch (value.kind) {
     case MORRIS_WON: return most - value.depth;
@@ -408,11 +408,11 @@ static int32_t worth(morris_value value) {
     }
 }
 
-/* How many of some moves have a value that is worth so much. */
-static size_t count_worth(const morris_move *moves, size_t count, int32_t wanted) {
+/* How many of some moves have a value of this score. */
+static size_t count_score(const morris_move *moves, size_t count, int32_t wanted) {
     size_t found = 0, i;
     for (i = 0; i < count; i++) {
-        found += worth(moves[i].value) == wanted;
+        found += score(moves[i].value) == wanted;
     }
     return found;
 }
@@ -423,9 +423,9 @@ static int32_t count_replies(const morris_tables *tables, uint32_t own, uint32_t
     morris_move moves[MORRIS_MOST_MOVES];
     size_t count = 0;
     uint32_t left = move->taken == MORRIS_NONE ? other : other & ~(1u << move->taken);
-    uint32_t moved = (own & ~(1u << move->from)) | 1u << move->to;
-    int32_t status = morris_moves_of(tables, left, moved, moves, MORRIS_MOST_MOVES, &count);
-    *replies = count_worth(moves, count, 0);
+    uint32_t after = (own & ~(1u << move->from)) | 1u << move->to;
+    int32_t status = morris_moves_of(tables, left, after, moves, MORRIS_MOST_MOVES, &count);
+    *replies = count_score(moves, count, 0);
     return status;
 }
 
@@ -467,9 +467,9 @@ int32_t morris_best(const morris_tables *tables, uint32_t own, uint32_t other, m
         return morris_fail(is_over ? MORRIS_OVER : MORRIS_DISAGREE, 0, 0, NULL);
     }
     for (i = 1; i < count; i++) {
-        best = worth(moves[i].value) > worth(moves[best].value) ? i : best;
+        best = score(moves[i].value) > score(moves[best].value) ? i : best;
     }
-    if (worth(moves[best].value) != worth(value)) {
+    if (score(moves[best].value) != score(value)) {
         return morris_fail(MORRIS_DISAGREE, 0, 0, NULL);
     }
     found = moves[best];

@@ -19,7 +19,7 @@ struct game {
 };
 
 /* How good a value is for the player who has it. */
-static int32_t worth(morris_value value) {
+static int32_t score(morris_value value) {
     switch (value.kind) {
     case MORRIS_WON: return 100000 - value.depth;
     case MORRIS_LOST: return value.depth - 100000;
@@ -52,7 +52,7 @@ static int32_t choose(const struct game *game, morris_move *chosen) {
         return MORRIS_OVER;
     }
     for (i = 0; i < count && status == MORRIS_OK; i++) {
-        int32_t better = i == 0 ? 1 : worth(moves[i].value) - worth(chosen->value);
+        int32_t better = i == 0 ? 1 : score(moves[i].value) - score(chosen->value);
         if (better >= 0 && moves[i].value.kind == MORRIS_DRAW) {
             status = count_replies(game, &moves[i], &replies);
         }

@@ -44,7 +44,7 @@ function stepFor(most) {
   return [1, 2, 5, 10, 20, 50, 100].find((step) => most / step <= 12) ?? 200;
 }
 
-function bar({ result, depth, count }, width, greatest, tell) {
+function bar({ result, depth, count }, width, greatest, show) {
   const height = Math.max(2, (HEIGHT * Math.log10(count + 1)) / Math.log10(greatest + 1));
   const words = `${resultWords({ result, depth })}: ${grouped(count)}`;
   const place = { x: depth * width, width: Math.max(1, width - 1) };
@@ -52,16 +52,16 @@ function bar({ result, depth, count }, width, greatest, tell) {
   // The whole height answers, so that a low bar can be pointed at.
   const area = made('rect', { class: 'area', ...place, y: 0, height: HEIGHT });
   area.append(made('title', {}, words));
-  area.addEventListener('mouseenter', () => tell(words));
-  area.addEventListener('mouseleave', () => tell(''));
+  area.addEventListener('mouseenter', () => show(words));
+  area.addEventListener('mouseleave', () => show(''));
   return [drawn, area];
 }
 
-function chart(rows, tell) {
+function chart(rows, show) {
   const most = Math.max(...rows.map((row) => row.depth), 1);
   const greatest = Math.max(...rows.map((row) => row.count), 1);
   const width = WIDTH / (most + 1);
-  const bars = rows.flatMap((row) => bar(row, width, greatest, tell));
+  const bars = rows.flatMap((row) => bar(row, width, greatest, show));
   const numbers = [];
   for (let depth = 0; depth <= most; depth += stepFor(most)) {
     const place = { x: (depth + 0.5) * width, y: HEIGHT + FOOT - 6 };
@@ -105,20 +105,20 @@ function deepest(board, side) {
 function drawnSide(board, side) {
   const rows = rowsOf(side);
   const pointed = element('output', { class: 'pointed' });
-  const told = 'Point at a bar for its number. Heights are logarithmic, the numbers are plies.';
-  const tell = (words) => { pointed.textContent = words || told; };
-  tell('');
+  const hint = 'Point at a bar for its number. Heights are logarithmic, the numbers are plies.';
+  const show = (words) => { pointed.textContent = words || hint; };
+  show('');
   const title = `${side.own} stones to move against ${side.other}`;
   const data = { class: 'side', 'data-own': side.own };
   return element('section', data,
     element('h3', {}, `${title}: ${grouped(side.positions)} positions`),
     totals(side),
-    ...(rows.length ? [chart(rows, tell), pointed] : []),
+    ...(rows.length ? [chart(rows, show), pointed] : []),
     deepest(board, side),
     table(rows, side));
 }
 
 /** Shows the counts of a pair. */
-export function showCounts(into, board, told) {
-  into.replaceChildren(...told.sides.map((side) => drawnSide(board, side)));
+export function showCounts(into, board, answer) {
+  into.replaceChildren(...answer.sides.map((side) => drawnSide(board, side)));
 }

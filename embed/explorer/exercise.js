@@ -11,11 +11,11 @@ const GONE = { won: 'the win', draw: 'the draw', lost: 'the result' };
 
 const nameOf = ({ text }, mover) => `${mover} ${text}`;
 
-/** An exercise from the words that ask for it and the position that was found. */
-export function begun(words, { text, result }) {
+/** An exercise from the parameters that ask for it and the position that was found. */
+export function begun(parameters, { text, result }) {
   const side = 'white';
-  const state = { isOver: false, isRevealed: false, waits: false, told: '' };
-  return { words, side, result, ...state, played: [], seen: [nameOf({ text }, side)] };
+  const state = { isOver: false, isRevealed: false, waits: false, message: '' };
+  return { parameters, side, result, ...state, played: [], seen: [nameOf({ text }, side)] };
 }
 
 export const task = ({ side, result }) => `${sideName(side)} ${ASKED[result]}`;
@@ -29,24 +29,27 @@ export const hidesValues = (exercise) =>
   Boolean(exercise) && !exercise.isRevealed && !exercise.isOver;
 
 /** The exercise after a move of its player, made at a place in the line of play. Where the result
- * wasn't kept it waits, so that the move can be taken back. */
+ * wasn't preserved it waits, so that the move can be taken back. */
 export function judged(exercise, place, before, move) {
-  const { kept, cost, text } = verdict(before, move);
-  const played = [...exercise.played.filter((it) => it.place < place), { place, cost, kept }];
-  return { ...exercise, played, told: text, waits: !kept };
+  const { isPreserved, cost, text } = verdict(before, move);
+  const earlier = exercise.played.filter((it) => it.place < place);
+  const played = [...earlier, { place, cost, isPreserved }];
+  return { ...exercise, played, message: text, waits: !isPreserved };
 }
 
 /** The exercise where the line of play is gone back to a place. */
 export function takenBack(exercise, place) {
   const played = exercise.played.filter((it) => it.place < place);
   const seen = exercise.seen.slice(0, 1);
-  return { ...exercise, played, seen, told: '', waits: false, isOver: false };
+  return { ...exercise, played, seen, message: '', waits: false, isOver: false };
 }
 
 /** What is said of all moves of the player. */
 function summary({ played, result }) {
   const count = `${played.length} ${played.length === 1 ? 'move' : 'moves'}`;
-  if (played.some((it) => !it.kept)) return `${count}, and ${GONE[result]} was gone on the way.`;
+  if (played.some((it) => !it.isPreserved)) {
+    return `${count}, and ${GONE[result]} was gone on the way.`;
+  }
   const cost = played.reduce((sum, it) => sum + it.cost, 0);
   if (!cost) return `${count}, and none was better.`;
   return `${count}, ${plies(cost)} ${result === 'won' ? 'more' : 'fewer'} than by best play.`;
@@ -57,8 +60,8 @@ function summary({ played, result }) {
 export function reached(exercise, answer, mover) {
   const name = nameOf(answer, mover);
   const next = { ...exercise, seen: [...exercise.seen, name] };
-  const over = (words) =>
-    ({ ...next, isOver: true, told: `${exercise.told} ${words}: ${summary(exercise)}`.trim() });
+  const over = (end) =>
+    ({ ...next, isOver: true, message: `${exercise.message} ${end}: ${summary(exercise)}`.trim() });
   if (answer.depth === 0) return over(mover === exercise.side ? 'You have lost' : 'You have won');
   const isHeld = exercise.result === 'draw' && answer.result === 'draw';
   if (isHeld && exercise.seen.includes(name)) return over('The position repeats, a draw');

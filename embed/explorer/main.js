@@ -102,7 +102,7 @@ function showValue() {
 function showPanel() {
   const { answer, exercise, fault, line } = state;
   at('task').textContent = exercise ? exercises.task(exercise) : '';
-  at('note').textContent = fault?.error ?? (state.note || exercise?.told || '');
+  at('note').textContent = fault?.error ?? (state.note || exercise?.message || '');
   at('command').textContent = fault?.command ?? '';
   at('command').hidden = !fault?.command;
   at('played').textContent = line.steps.slice(1, line.at + 1).map((it) => it.move).join(' ');
@@ -129,7 +129,7 @@ function show() {
 
 function keepAddress() {
   const { board, exercise, line } = state;
-  const address = exercise ? states.addressOfExercise(exercise.words)
+  const address = exercise ? states.addressOfExercise(exercise.parameters)
     : states.addressOf(board, current(line));
   if (location.hash !== address) history.replaceState(null, '', address);
 }
@@ -155,7 +155,7 @@ async function answered(call) {
     return await call;
   } catch (error) {
     if (!(error instanceof Refused)) throw error;
-    return { fault: error.told };
+    return { fault: error.answer };
   }
 }
 
@@ -215,7 +215,7 @@ function setFirst(board) {
 function take(written) {
   const { board, text, fault } = states.readText(written);
   if (fault) {
-    tellNote(fault);
+    showNote(fault);
   } else if (board !== state.board || text !== current(state.line).text) {
     const mode = state.mode === 'setup' ? 'setup' : 'play';
     setPosition(board, { text, mover: 'white' }, mode);
@@ -256,7 +256,7 @@ function pressInPlay(place) {
   if (!move) return pick(place);
   if (move.taken === null) return play(move);
   state.goal = place;
-  return tellNote('Which stone is taken?');
+  return showNote('Which stone is taken?');
 }
 
 function press(place) {
@@ -265,7 +265,7 @@ function press(place) {
   return put(place, document.querySelector('[name=tool]:checked').value);
 }
 
-function tellNote(note) {
+function showNote(note) {
   state.note = note;
   show();
 }
@@ -302,7 +302,7 @@ async function runBest() {
     const isAgain = seen.has(`${mover} ${text}`);
     if (!best || isAgain) {
       stop();
-      return tellNote(isAgain ? 'The position repeats: a draw.' : '');
+      return showNote(isAgain ? 'The position repeats: a draw.' : '');
     }
     seen.add(`${mover} ${text}`);
     state.line = states.advance(state.line, best);
@@ -314,34 +314,34 @@ async function runBest() {
 
 // ---- exercises
 
-function exerciseWords() {
-  const words = Object.fromEntries(new FormData(at('exercise')));
-  return { board: state.board, ...words };
+function exerciseParameters() {
+  const parameters = Object.fromEntries(new FormData(at('exercise')));
+  return { board: state.board, ...parameters };
 }
 
-async function setExercise(words) {
+async function setExercise(parameters) {
   stop();
-  useBoard(words.board);
+  useBoard(parameters.board);
   Object.assign(state, { mode: 'find', exercise: null });
-  for (const [name, word] of Object.entries(words)) {
-    if (at('exercise').elements[name]) at('exercise').elements[name].value = word;
+  for (const [name, value] of Object.entries(parameters)) {
+    if (at('exercise').elements[name]) at('exercise').elements[name].value = value;
   }
   show();
   const arrival = ++arrivals;
-  const tell = (part) => {
+  const report = (part) => {
     if (arrival === arrivals) at('note').textContent = `Looking: ${Math.round(100 * part)} %`;
     return arrival === arrivals;
   };
-  const told = await answered(askExercise(words, tell));
+  const answer = await answered(askExercise(parameters, report));
   if (arrival !== arrivals) return;
-  if (told.fault || told.text === null) {
-    const error = `No position of ${words.pair} is like that.`;
-    Object.assign(state, { fault: told.fault ?? { error }, answer: null });
+  if (answer.fault || answer.text === null) {
+    const error = `No position of ${parameters.pair} is like that.`;
+    Object.assign(state, { fault: answer.fault ?? { error }, answer: null });
     show();
     return;
   }
-  state.exercise = exercises.begun(words, told);
-  state.line = states.begin({ text: told.text, mover: 'white' });
+  state.exercise = exercises.begun(parameters, answer);
+  state.line = states.begin({ text: answer.text, mover: 'white' });
   await arrive();
 }
 
@@ -422,15 +422,15 @@ async function showPair(board, pair) {
 async function showNumbers(board, pair) {
   const name = pairShown();
   history.replaceState(null, '', states.addressOfPair(board, pair));
-  const tell = (part) => showProgress(name, part);
-  const told = await answered(askCounts(board, pair, tell));
+  const report = (part) => showProgress(name, part);
+  const answer = await answered(askCounts(board, pair, report));
   if (pairShown() !== name) return;
   at('progress').hidden = true;
-  if (told.fault) {
-    at('counting').textContent = told.fault.error;
+  if (answer.fault) {
+    at('counting').textContent = answer.fault.error;
     return;
   }
-  showCounts(at('sides'), board, told);
+  showCounts(at('sides'), board, answer);
   document.body.dataset.shown = name;
 }
 
@@ -450,7 +450,7 @@ function useAddress() {
   if (found?.position) return setPosition(found.board, found.position, 'play');
   const isWrong = location.hash.length > 1;
   const set = setFirst(state.board);
-  return isWrong ? set.then(() => tellNote('The address has no position of a board.')) : set;
+  return isWrong ? set.then(() => showNote('The address has no position of a board.')) : set;
 }
 
 function onKey(event) {
@@ -499,11 +499,11 @@ function listenToExercise() {
   onClick('reveal', reveal);
   onClick('another', () => {
     at('exercise').elements.seed.value = Math.floor(1e6 * Math.random());
-    setExercise(exerciseWords());
+    setExercise(exerciseParameters());
   });
   at('exercise').addEventListener('submit', (event) => {
     event.preventDefault();
-    setExercise(exerciseWords());
+    setExercise(exerciseParameters());
   });
 }
 

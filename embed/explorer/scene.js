@@ -2,9 +2,9 @@
 
 import { hidesValues, mayMove } from './exercise.js';
 import { current, stoneAt } from './state.js';
-import { markOf, resultWords, sideName, worth } from './words.js';
+import { markOf, resultWords, sideName, score } from './words.js';
 
-const best = (moves) => moves.reduce((a, b) => (worth(b) > worth(a) ? b : a));
+const best = (moves) => moves.reduce((a, b) => (score(b) > score(a) ? b : a));
 
 function grouped(moves, point) {
   const groups = new Map();

@@ -1,13 +1,13 @@
 // What the server is asked.
 
-const MOST_KEPT = 500;
-const kept = new Map();
+const MOST_CACHED = 500;
+const cache = new Map();
 
-/** The server has no answer: `told` says why. */
+/** A request was refused: `answer` says why. */
 export class Refused extends Error {
-  constructor(told) {
-    super(told.error);
-    this.told = told;
+  constructor(answer) {
+    super(answer.error);
+    this.answer = answer;
   }
 }
 
@@ -19,12 +19,12 @@ async function fetched(address) {
   }
 }
 
-export async function ask(path, words = {}) {
-  const query = new URLSearchParams(words).toString();
+export async function ask(path, parameters = {}) {
+  const query = new URLSearchParams(parameters).toString();
   const response = await fetched(query ? `${path}?${query}` : path);
-  const told = await response.json();
-  if (!response.ok) throw new Refused(told);
-  return told;
+  const answer = await response.json();
+  if (!response.ok) throw new Refused(answer);
+  return answer;
 }
 
 export const askPairs = () => ask('/api/pairs');
@@ -32,32 +32,32 @@ export const askPairs = () => ask('/api/pairs');
 /** The value of a position with its moves. What was answered before isn't asked again. */
 export async function askPosition(board, text) {
   const name = `${board}/${text}`;
-  if (!kept.has(name)) {
-    const told = await ask('/api/position', { board, text });
-    if (kept.size >= MOST_KEPT) kept.delete(kept.keys().next().value);
-    kept.set(name, told);
+  if (!cache.has(name)) {
+    const answer = await ask('/api/position', { board, text });
+    if (cache.size >= MOST_CACHED) cache.delete(cache.keys().next().value);
+    cache.set(name, answer);
   }
-  return kept.get(name);
+  return cache.get(name);
 }
 
-/** A position of an exercise, or one whose text is null where there is none. `tell` hears how far
- * the search is, and says whether it is still wanted. */
-export async function askExercise(words, tell) {
-  let told = { searched: 0 };
+/** A position of an exercise, or one whose text is null where there is none. `report` is called
+ * with how far the search is, and says whether it is still wanted. */
+export async function askExercise(parameters, report) {
+  let answer = { searched: 0 };
   do {
-    told = await ask('/api/find', { ...words, searched: told.searched });
-  } while (tell(told.searched / told.entries) && !told.done);
-  return told;
+    answer = await ask('/api/find', { ...parameters, searched: answer.searched });
+  } while (report(answer.searched / answer.entries) && !answer.done);
+  return answer;
 }
 
 const pause = (milliseconds) => new Promise((done) => setTimeout(done, milliseconds));
 
-/** How many positions of a pair there are of each value. `tell` hears how far the count is, and
- * says whether it is still wanted. */
-export async function askCounts(board, pair, tell) {
+/** How many positions of a pair there are of each value. `report` is called with how far the count
+ * is, and says whether it is still wanted. */
+export async function askCounts(board, pair, report) {
   for (;;) {
-    const told = await ask('/api/counts', { board, pair });
-    if (!tell(told.counted / told.entries) || told.done) return told;
+    const answer = await ask('/api/counts', { board, pair });
+    if (!report(answer.counted / answer.entries) || answer.done) return answer;
     await pause(300);
   }
 }

@@ -53,7 +53,7 @@ export const begin = (position) => ({ steps: [{ ...position, move: null }], at: 
 
 export const current = (line) => line.steps[line.at];
 
-/** The line with a move at its place. What came after is kept where it is the same move. */
+/** The line with a move at its place. What came after stays where it is the same move. */
 export function advance(line, move) {
   const { mover } = current(line);
   if (line.steps[line.at + 1]?.move === move.move) return { ...line, at: line.at + 1 };

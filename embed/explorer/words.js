@@ -32,26 +32,26 @@ export function moveWords({ from, to, taken }) {
   return `${from} to ${to}${taken === null ? '' : `, takes ${taken}`}`;
 }
 
-/** A number by which outcomes are compared: the greater the better for the player to move. */
-export function worth({ result, depth }) {
+/** The score of an outcome: the greater the better for the player to move. */
+export function score({ result, depth }) {
   return result === 'draw' ? 0 : (result === 'won' ? 1 : -1) / (1 + depth);
 }
 
-export const bestFirst = (moves) => [...moves].sort((a, b) => worth(b) - worth(a));
+export const bestFirst = (moves) => [...moves].sort((a, b) => score(b) - score(a));
 
-/** What a player's move did to the value of a position: whether it kept the result, what is to be
- * said, and how many plies it cost. */
+/** What a player's move did to the value of a position: whether it preserved the result, what is
+ * to be said, and how many plies it cost. */
 export function verdict(before, move) {
-  const kept = before.result === move.result;
-  if (!kept) {
+  const isPreserved = before.result === move.result;
+  if (!isPreserved) {
     const gone = before.result === 'won' ? 'The win' : 'The draw';
-    return { kept, cost: 0, text: `${gone} is gone: ${resultWords(move)}.` };
+    return { isPreserved, cost: 0, text: `${gone} is gone: ${resultWords(move)}.` };
   }
-  if (before.result === 'draw') return { kept, cost: 0, text: 'The draw is kept.' };
+  if (before.result === 'draw') return { isPreserved, cost: 0, text: 'The draw is kept.' };
   const isWon = before.result === 'won';
   const cost = Math.abs(before.depth - move.depth);
   const what = isWon ? 'The win is kept: won' : 'Lost in any case:';
   const less = `${plies(cost)} ${isWon ? 'more' : 'sooner'} than needed`;
   const said = cost ? less : 'and no move is better';
-  return { kept, cost, text: `${what} in ${plies(move.depth)}, ${said}.` };
+  return { isPreserved, cost, text: `${what} in ${plies(move.depth)}, ${said}.` };
 }

@@ -50,7 +50,7 @@ the PATH. A release of Morris has it built; CORE=PATH names a libmorris_c.a"
     trap 'rm -f -- "$ended"' EXIT
     # The prover's first, quick pass reads functions too that the library doesn't reach. Since one
     # of them starts threads, it says of each export that its theorem can't be stated. Whether it is
-    # proved, the verdict tells that comes after that, and `rt lib` ends with it.
+    # proved, the verdict says that comes after that, and `rt lib` ends with it.
     {
         (cd "$crate" && rt lib) 2>&1
         echo $? > "$ended"

@@ -33,8 +33,8 @@ def tree(folder, to):
     """The files of a folder, but for what tools leave there, by their names in the archive."""
     left = {"__pycache__", "target", "Cargo.lock"}
     files = sorted(it for it in folder.rglob("*") if it.is_file())
-    kept = (it for it in files if not left & set(it.relative_to(folder).parts))
-    return {f"{to}/{it.relative_to(folder).as_posix()}": it.read_bytes() for it in kept}
+    chosen = (it for it in files if not left & set(it.relative_to(folder).parts))
+    return {f"{to}/{it.relative_to(folder).as_posix()}": it.read_bytes() for it in chosen}
 
 
 def modules():
@@ -45,8 +45,8 @@ def modules():
 
 def package_file():
     """morris.pc, whose prefix is wherever it was unpacked."""
-    words = [PACKAGING / "pc.sh", "${pcfiledir}/../..", version()]
-    return subprocess.run(words, check=True, capture_output=True).stdout
+    command = [PACKAGING / "pc.sh", "${pcfiledir}/../..", version()]
+    return subprocess.run(command, check=True, capture_output=True).stdout
 
 
 def contents(out):

@@ -1,6 +1,6 @@
 #!/bin/sh
 # Runs the explorer, which stands in share/morris-explorer or python beside this folder, with the
-# words untouched, from any folder and through links. PYTHON names another Python than python3.
+# arguments unchanged, from any folder and through links. PYTHON names another Python than python3.
 set -u
 case $0 in
     */*) here=$0 ;;

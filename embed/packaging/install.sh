@@ -9,8 +9,8 @@
 # python3. With DESTDIR all goes below that folder, for a package that is installed later.
 #
 # Each file takes the place of an older one at once: a program that has the older one open or mapped
-# keeps it. Files are copied before the first one takes its place, so an install that fails for want
-# of room or of a right changes nothing.
+# goes on with it. Files are copied before the first one takes its place, so an install that fails
+# for want of room or of a right changes nothing.
 set -u
 CDPATH='' cd -P -- "$(dirname -- "$0")" || exit 1
 umask 022
@@ -21,15 +21,15 @@ refuse() {
 }
 
 task=install PREFIX=/usr/local DESTDIR='' LIBDIR='' INCLUDEDIR='' PYTHON=python3
-for word in "$@"; do
-    case $word in
+for argument in "$@"; do
+    case $argument in
         uninstall) task=uninstall ;;
-        PREFIX=*) PREFIX=${word#*=} ;;
-        DESTDIR=*) DESTDIR=${word#*=} ;;
-        LIBDIR=*) LIBDIR=${word#*=} ;;
-        INCLUDEDIR=*) INCLUDEDIR=${word#*=} ;;
-        PYTHON=*) PYTHON=${word#*=} ;;
-        *) refuse "$word isn't uninstall, PREFIX=, LIBDIR=, INCLUDEDIR=, DESTDIR= or PYTHON=" ;;
+        PREFIX=*) PREFIX=${argument#*=} ;;
+        DESTDIR=*) DESTDIR=${argument#*=} ;;
+        LIBDIR=*) LIBDIR=${argument#*=} ;;
+        INCLUDEDIR=*) INCLUDEDIR=${argument#*=} ;;
+        PYTHON=*) PYTHON=${argument#*=} ;;
+        *) refuse "$argument isn't uninstall, PREFIX=, LIBDIR=, INCLUDEDIR=, DESTDIR= or PYTHON=" ;;
     esac
 done
 PREFIX=${PREFIX%/}

@@ -26,7 +26,7 @@ if [ "$has" != unlimited ] && [ "$has" -lt "$stack" ]; then
 fi
 # A file that grows too large is a write that fails, and no signal that ends the program.
 trap '' XFSZ
-# The C library gives back at once what is let go in pieces of 48 KiB or more, and sets no smaller
+# The C library gives back at once what is freed in blocks of 48 KiB or more, and sets no smaller
 # ones aside for its threads.
 : "${MALLOC_MMAP_THRESHOLD_:=49152}"
 : "${GLIBC_TUNABLES:=glibc.malloc.tcache_count=0}"

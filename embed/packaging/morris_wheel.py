@@ -20,7 +20,7 @@ from pathlib import Path
 
 EMBED = Path(__file__).resolve().parent.parent
 NAME = "morris"
-# No file is older in a wheel, which can't tell of times before.
+# No file is older in a wheel, which can't record times before.
 EPOCH = 315532800
 CLASSIFIERS = (
     "Development Status :: 5 - Production/Stable",
@@ -54,8 +54,8 @@ def platform_of(library):
 def explorer():
     """The files of the explorer, by their names in the package."""
     files = [*EMBED.glob("explorer*.py"), *(EMBED / "explorer").rglob("*")]
-    kept = (it for it in sorted(files) if it.is_file() and "__pycache__" not in it.parts)
-    return {f"{NAME}/{it.relative_to(EMBED).as_posix()}": it.read_bytes() for it in kept}
+    chosen = (it for it in sorted(files) if it.is_file() and "__pycache__" not in it.parts)
+    return {f"{NAME}/{it.relative_to(EMBED).as_posix()}": it.read_bytes() for it in chosen}
 
 
 def metadata():
@@ -162,7 +162,7 @@ def build_wheel(wheel_directory, config_settings=None, metadata_directory=None):
 
 
 class UnsupportedOperation(Exception):
-    """What pip is told of what can't be done."""
+    """What can't be done here, for pip to report."""
 
 
 def build_sdist(sdist_directory, config_settings=None):

@@ -1,5 +1,5 @@
 #!/bin/sh
-# Prints morris.pc, which tells pkg-config of the library: pc.sh PREFIX VERSION [LIBDIR INCLUDEDIR].
+# Prints morris.pc, in which pkg-config finds the library: pc.sh PREFIX VERSION [LIBDIR INCLUDEDIR].
 cat << END
 prefix=$1
 libdir=${3-\${prefix\}/lib}

@@ -22,8 +22,8 @@ fn beside() -> Option<PathBuf> {
 }
 
 fn by_pkg_config() -> Option<PathBuf> {
-    let words = ["--variable=libdir", "morris"];
-    let said = Command::new("pkg-config").args(words).output().ok()?;
+    let arguments = ["--variable=libdir", "morris"];
+    let said = Command::new("pkg-config").args(arguments).output().ok()?;
     let folder = PathBuf::from(String::from_utf8(said.stdout).ok()?.trim());
     (said.status.success() && has_library(&folder)).then_some(folder)
 }

@@ -29,11 +29,11 @@ static int32_t look(const morris_folder *t, uint32_t own, uint32_t other, morris
 }
 
 /* How good a value is for the player to move: sooner wins and later losses are better. */
-static int worth(morris_value v) {
+static int score(morris_value v) {
     return v.kind == MORRIS_DRAW ? 0 : v.kind == MORRIS_WON ? 100000 - v.depth : v.depth - 100000;
 }
 
-/* Whether the moves of a position bear its value out, and are in order. */
+/* Whether the value of a position follows from those of its moves, and they are in order. */
 static void bear_out(const morris_folder *t, uint32_t own, uint32_t other, morris_value value) {
     static morris_move moves[MORRIS_MOST_MOVES];
     size_t count = 77, i;
@@ -48,15 +48,15 @@ static void bear_out(const morris_folder *t, uint32_t own, uint32_t other, morri
         IS(m->value.kind, next.kind == MORRIS_DRAW ? MORRIS_DRAW : next.kind == MORRIS_WON ? MORRIS_LOST : MORRIS_WON);
         IS(m->value.depth, next.kind == MORRIS_DRAW ? 0 : next.depth + 1);
         IS(m->pad, 0);
-        if (worth(m->value) > best) {
-            best = worth(m->value);
+        if (score(m->value) > best) {
+            best = score(m->value);
         }
         if (i > 0) {
             const morris_move *b = &moves[i - 1];
             IS((b->from << 16 | b->to << 8 | b->taken) < (m->from << 16 | m->to << 8 | m->taken), 1);
         }
     }
-    IS(count > 0 ? best : -100000, worth(value));
+    IS(count > 0 ? best : -100000, score(value));
 }
 
 /* All positions of Grid, in both versions. */

@@ -1,4 +1,4 @@
-/* What the callers in C share: how they tell what is wrong, and go on. */
+/* What the callers in C share: how they report what is wrong, and go on. */
 #ifndef CHECK_H
 #define CHECK_H
 

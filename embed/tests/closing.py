@@ -23,10 +23,10 @@ class Meanwhile:
         self.library = library
 
     def __getattr__(self, name):
-        def call(*words):
+        def call(*arguments):
             if name in CALLS:
                 tables.close()
-            return getattr(self.library, name)(*words)
+            return getattr(self.library, name)(*arguments)
         return call
 
 morris._loaded = Meanwhile(morris._library())
@@ -97,11 +97,11 @@ def lets_go():
 
 
 def closes_at_once():
-    """Errors that are kept keep no file open."""
+    """Errors that are still there hold no file open."""
     tables = opened()
-    kept = [raised(lambda: tables.value(it)) for it in (None, (1 << 9, OTHER), (OWN, OWN))]
-    kept += [raised(lambda: tables.moves(it)) for it in (None, (1 << 9, OTHER), (OWN, OWN))]
-    assert mapped() > 0 and len(kept) == 6
+    errors = [raised(lambda: tables.value(it)) for it in (None, (1 << 9, OTHER), (OWN, OWN))]
+    errors += [raised(lambda: tables.moves(it)) for it in (None, (1 << 9, OTHER), (OWN, OWN))]
+    assert mapped() > 0 and len(errors) == 6
     tables.close()
     assert mapped() == 0
     asks_closed(tables)

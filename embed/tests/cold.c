@@ -1,5 +1,5 @@
 /* What is read of a file that isn't in memory: cold FOLDER, which has the table of Nine 4-3 by
- * positions. A few values are looked up in a copy that the system was told to forget. */
+ * positions. A few values are looked up in a copy that the system was made to forget. */
 #define _DEFAULT_SOURCE
 #include "check.h"
 #include "morris_folder.h"

@@ -16,17 +16,17 @@ WRONG += [text[:-1] + it for text in (GRID, NINE) for it in "xo0 -\n"]
 WRONG += [GRID[:-1] + "\xff".encode("latin1").decode(errors="surrogateescape"), "\u0425" * 12]
 
 
-def ran(program, *words):
+def ran(program, *arguments):
     how = {"capture_output": True, "text": True, "errors": "replace", "timeout": MOST_SECONDS}
-    done = subprocess.run([*program, *words], **how)
+    done = subprocess.run([*program, *arguments], **how)
     return done.returncode, done.stdout, done.stderr
 
 
-def refuses(program, status, *words):
+def refuses(program, status, *arguments):
     """The program ends with this status and a line on standard error, which is given, and prints
     nothing."""
-    found = ran(program, *words)
-    assert found[:2] == (status, "") and found[2].count("\n") == 1, (program, words, found)
+    found = ran(program, *arguments)
+    assert found[:2] == (status, "") and found[2].count("\n") == 1, (program, arguments, found)
     return found[2]
 
 
@@ -45,8 +45,8 @@ def examine(program, folder, shown, answer):
     assert ran(program, folder, NINE)[0] == 0
     for text in WRONG:
         refuses(program, 2, folder, text)
-    for words in ((), (folder,), (folder, GRID, GRID), (GRID,), (GRID, folder), ("/nowhere", "X")):
-        refuses(program, 2, *words)
+    for given in ((), (folder,), (folder, GRID, GRID), (GRID,), (GRID, folder), ("/nowhere", "X")):
+        refuses(program, 2, *given)
     for place in ("/nowhere", "", f"{folder}/grid-3-3.nmmt", os.path.dirname(__file__), "x" * 5000):
         refuses(program, 1, place, GRID)
     refuses(program, 1, folder, "X..OOO...")

@@ -44,12 +44,12 @@ def refused(status, call):
     return fault
 
 
-def run_python(code, *words, **environment):
+def run_python(code, *arguments, **environment):
     """Runs a program that has the module, and checks that it ends well and says no more than what
     it prints, which is given."""
     head = f"import sys\nsys.path.insert(0, {EMBED!r})\nimport morris\n"
     how = {"capture_output": True, "text": True, "timeout": MOST_SECONDS}
     how["env"] = {**os.environ, **environment}
-    done = subprocess.run([sys.executable, "-c", head + code, *words], **how)
+    done = subprocess.run([sys.executable, "-c", head + code, *arguments], **how)
     assert (done.returncode, done.stderr) == (0, ""), (code, done)
     return done.stdout

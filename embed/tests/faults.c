@@ -186,7 +186,7 @@ static void refused_files(void) {
     remove_table("3-3");
 }
 
-/* A missing table's pair is told, of the position itself or of the first move that leads there. */
+/* A missing table's pair is named, of the position itself or of the first move that leads there. */
 static void missing_tables(void) {
     morris_tables *tables;
     uint32_t overlap[2] = {7, 7};
@@ -251,15 +251,15 @@ static void *another_thread(void *given) {
 
 static void threads(void) {
     morris_tables *tables;
-    const morris_fault *kept;
+    const morris_fault *noted;
     pthread_t thread;
     copy_table("3-3");
     tables = open_it("it");
     IS(value_of(tables, FOUR), MORRIS_NO_TABLE);
-    kept = morris_last_fault();
+    noted = morris_last_fault();
     IS(pthread_create(&thread, NULL, another_thread, tables), 0);
     IS(pthread_join(thread, NULL), 0);
-    IS(kept == morris_last_fault(), 1);
+    IS(noted == morris_last_fault(), 1);
     morris_close(tables);
     TOLD(MORRIS_NO_TABLE, 0, 43, NULL, "no table of 4-3");
     remove_table("3-3");

@@ -218,7 +218,7 @@ static void paths(void) {
 
 int main(int argc, char **argv) {
     char room[] = "/tmp/morris-folders-XXXXXX", *file = argc == 2 ? realpath(argv[1], NULL) : NULL;
-    setvbuf(stdout, NULL, _IONBF, 0); /* what a killed call was about is told */
+    setvbuf(stdout, NULL, _IONBF, 0); /* what a killed call was about is printed */
     if (file == NULL || mkdtemp(room) == NULL || chdir(room) != 0 || mkdir(IN, 0700) != 0) {
         return 2;
     }

@@ -11,10 +11,10 @@ OVER_EITHER = ("calls", "plays", "refusals", "damage")
 OVER_CLASSES = ("typed", "paths", "closing", "pickles")
 
 
-def test(name, *words):
-    done = subprocess.run([sys.executable, "-B", f"{HERE}/{name}.py", *words])
+def test(name, *arguments):
+    done = subprocess.run([sys.executable, "-B", f"{HERE}/{name}.py", *arguments])
     if done.returncode:
-        sys.exit(f"{name}.py {' '.join(words)}: ended with status {done.returncode}")
+        sys.exit(f"{name}.py {' '.join(arguments)}: ended with status {done.returncode}")
 
 
 def main():

@@ -1,5 +1,5 @@
 """What the module for Python hands out goes from process to process: pickles.py FOLDER, which has
-the tables of Grid. A pool that hangs is told of."""
+the tables of Grid. A pool that hangs is reported."""
 
 import copy
 import errno
@@ -102,13 +102,13 @@ def faults():
 
 
 def start(folder):
-    """What a process of a pool begins with: the tables that it keeps."""
-    global kept
-    kept = morris.open_tables(folder, "grid")
+    """What a process of a pool begins with: tables of its own."""
+    global opened
+    opened = morris.open_tables(folder, "grid")
 
 
 def ask_kept(position):
-    return kept.value(position), kept.choose(position)
+    return opened.value(position), opened.choose(position)
 
 
 def pools_that_keep():

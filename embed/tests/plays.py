@@ -31,17 +31,17 @@ def plays_each_move(tables, own, other):
     moves = [it.move for it in tables.moves(text)]
     assert morris.legal_moves(text, "grid") == moves
     for move in moves:
-        left, moved = other - {move.taken}, own - {move.start} | {move.end}
-        after = text_of(left, moved, 9)
+        left, own_after = other - {move.taken}, own - {move.start} | {move.end}
+        after = text_of(left, own_after, 9)
         assert tables.play(text, move) == morris.play(text, str(move), "grid") == after
-        assert tables.play((mask(own), mask(other)), move) == (mask(left), mask(moved))
+        assert tables.play((mask(own), mask(other)), move) == (mask(left), mask(own_after))
         assert Move.read(str(move)) == move
     for wrong in (Move(0, 0, None), Move(*sorted(own)[:2], None), Move(min(other), 8, None)):
         if wrong not in moves:
             refused(Status.ILLEGAL, lambda: tables.play(text, wrong))
 
 
-def keeping(tables, text, move):
+def count_drawing(tables, text, move):
     """How many moves that keep a draw there are after a move."""
     after = tables.play(text, move)
     return sum(value.kind == Kind.DRAW for _, value in tables.moves(after))
@@ -54,14 +54,14 @@ def chooses(tables, text):
         assert chosen is None and tables.line(text) == []
         return
     if best[0].value.kind == Kind.DRAW:
-        fewest = min(keeping(tables, text, it.move) for it in best)
-        best = [it for it in best if keeping(tables, text, it.move) == fewest]
+        fewest = min(count_drawing(tables, text, it.move) for it in best)
+        best = [it for it in best if count_drawing(tables, text, it.move) == fewest]
         assert tables.line(text) == []
     assert type(chosen) is Outcome and chosen == best[0]
 
 
 def goes_on(tables, position):
-    """A line has as many plies as the value tells, each a best one, and ends the game."""
+    """A line has as many plies as the value says, each a best one, and ends the game."""
     value = tables.value(position)
     line = tables.line(position)
     assert len(line) == (value.depth if value.kind != Kind.DRAW else 0)
@@ -106,7 +106,7 @@ def refusals(tables):
 
 
 def defaults(folder):
-    """What has no table is told by the default, and what is no position never."""
+    """The default is given for what has no table, and never for what is no position."""
     with morris.open_tables(folder) as tables:
         many, nothing = "X" * 9 + "O" * 9 + "." * 6, object()
         assert tables.get(many) is None and tables.get(many, nothing) is nothing

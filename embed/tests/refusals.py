@@ -17,8 +17,8 @@ class Nobody:
     def __getattr__(self, name):
         return self.called
 
-    def called(self, *words):
-        raise AssertionError(f"C is called with {words}")
+    def called(self, *arguments):
+        raise AssertionError(f"C is called with {arguments}")
 
 
 class Looks:

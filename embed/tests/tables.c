@@ -196,7 +196,7 @@ static void paths(const char *full, const char *classes) {
 /* ---- choosing */
 
 /* How good a value is for the player to move: sooner wins and later losses are better. */
-static int worth(morris_value v) {
+static int score(morris_value v) {
     return v.kind == MORRIS_DRAW ? 0 : v.kind == MORRIS_WON ? 100000 - v.depth : v.depth - 100000;
 }
 
@@ -220,7 +220,7 @@ static void is_best(const morris_tables *tables, uint32_t own, uint32_t other, c
     int is_before = 1;
     IS(morris_moves_of(tables, own, other, moves, MORRIS_MOST_MOVES, &count), MORRIS_OK);
     for (i = 0; i < count; i++) {
-        int better = worth(best->value) - worth(moves[i].value);
+        int better = score(best->value) - score(moves[i].value);
         is_before = is_before && memcmp(best, &moves[i], sizeof *best) != 0;
         if (better == 0 && best->value.kind == MORRIS_DRAW) {
             better = (int)replies(tables, own, other, &moves[i]) - (int)least;
@@ -242,7 +242,7 @@ static void choices(const char *path) {
             IS(morris_best(tables, own, other, &best), is_over ? MORRIS_OVER : status);
             IS(best.pad == CHANGED, status != MORRIS_OK || is_over);
             if (status == MORRIS_OK && !is_over) {
-                IS(worth(best.value), worth(value));
+                IS(score(best.value), score(value));
                 is_best(tables, own, other, &best);
             }
         }

@@ -16,8 +16,8 @@ fn print_best(folder: &OsStr, text: &str) -> Result<(), Error> {
 }
 
 fn main() -> ExitCode {
-    let words: Vec<_> = std::env::args_os().skip(1).collect();
-    let answer = match words.as_slice() {
+    let arguments: Vec<_> = std::env::args_os().skip(1).collect();
+    let answer = match arguments.as_slice() {
         [folder, text] => print_best(folder, &text.to_string_lossy()),
         _ => Err(Error::PositionText),
     };

@@ -122,9 +122,9 @@ pub enum Error {
         /// Why: of the kind `NotFound` where there is no table file.
         why: io::Error,
     },
-    /// The text shows no position: it hasn't 24 or 9 characters `X`, `O` and `.`.
+    /// The string shows no position: it hasn't 24 or 9 characters `X`, `O` and `.`.
     PositionText,
-    /// The text shows no move, such as `3-2` or `3-2x22`.
+    /// The string shows no move, such as `3-2` or `3-2x22`.
     MoveText,
     /// The position is one of another board than the tables.
     Board,
@@ -168,8 +168,8 @@ impl PartialEq for Error {
                 Error::Damaged { path: other_path, pair: other_pair, status: other_status },
             ) => (path, pair, status) == (other_path, other_pair, other_status),
             (Error::Open { path: a, why }, Error::Open { path: b, why: other_why }) => {
-                let told = |it: &io::Error| (it.kind(), it.raw_os_error());
-                a == b && told(why) == told(other_why)
+                let reason = |it: &io::Error| (it.kind(), it.raw_os_error());
+                a == b && reason(why) == reason(other_why)
             }
             (Error::PositionText, Error::PositionText) => true,
             (Error::MoveText, Error::MoveText) => true,

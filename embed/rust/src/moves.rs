@@ -81,7 +81,7 @@ impl Value {
         }
     }
 
-    fn worth(self) -> i32 {
+    fn score(self) -> i32 {
         let most = i32::from(u16::MAX) + 1;
         match self {
             Value::Draw => 0,
@@ -93,7 +93,7 @@ impl Value {
 
 impl Ord for Value {
     fn cmp(&self, other: &Value) -> Ordering {
-        self.worth().cmp(&other.worth())
+        self.score().cmp(&other.score())
     }
 }
 

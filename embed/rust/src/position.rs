@@ -36,8 +36,8 @@ impl Board {
 
 /// The stones of the player to move and of the opponent, all of them on the board.
 ///
-/// It is read from a text with a character for each point, in order, and written as one: `X` for a
-/// stone of the player to move, `O` for one of the opponent, `.` for a vacant point.
+/// It is read from a string with a character for each point, in order, and written as one: `X` for
+/// a stone of the player to move, `O` for one of the opponent, `.` for a vacant point.
 #[derive(Clone, Copy, PartialEq, Eq, Hash, Debug)]
 pub struct Position {
     board: Board,
@@ -109,7 +109,7 @@ impl Position {
 impl FromStr for Position {
     type Err = Error;
 
-    /// Reads the text of a position: with 24 characters on the usual board, with 9 on the grid.
+    /// Reads a position string: with 24 characters on the usual board, with 9 on the grid.
     fn from_str(text: &str) -> Result<Position, Error> {
         let board = match text.len() {
             24 => Board::Nine,

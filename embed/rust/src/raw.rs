@@ -97,7 +97,7 @@ pub struct Fault {
 
 /// Why the last call of this thread failed that did.
 pub fn last_fault() -> Fault {
-    // SAFETY: the library keeps what this points to for this thread, until its next call.
+    // SAFETY: what this points to stays valid in this thread until its next call.
     let raw = unsafe { &*morris_last_fault() };
     let path = (!raw.path.is_null()).then(|| {
         // SAFETY: a path that is there ends with a zero.

@@ -14,7 +14,7 @@ use std::ptr::NonNull;
 /// are dropped.
 ///
 /// The values are those that the files state: `morris verify BOARD --from FOLDER`, run once before,
-/// tells whether they are right. Files are mapped: to replace one, put another under its name by
+/// says whether they are right. Files are mapped: to replace one, put another under its name by
 /// renaming, as `morris build` does. One that is cut short or changed while it is open may end the
 /// program, or give wrong values.
 #[derive(Debug)]
@@ -38,8 +38,8 @@ impl Tables {
     /// them no call does more than Rust's rules allow. But if another program cuts a file short
     /// meanwhile, a call that needs what was cut off ends the program by the signal SIGBUS, which
     /// can't be caught as an error; and if it overwrites bytes, calls may give wrong values. So
-    /// replace a file by renaming another to its name, as `morris build` does: the tables keep the
-    /// file that they opened. Where others may write to the files, copy them first.
+    /// replace a file by renaming another to its name, as `morris build` does: the tables stay with
+    /// the file that they opened. Where others may write to the files, copy them first.
     ///
     /// # Errors
     /// [`Error::Open`] where there are none, and where the system refuses a folder or each of the
@@ -111,7 +111,7 @@ impl Tables {
 
     /// One of the best moves, or none where the game is over. Of several that win or lose it is the
     /// first; of several that keep a draw the first of those after which the opponent has the
-    /// fewest moves that keep it too. A table tells no draw from another: this is a rule of thumb.
+    /// fewest moves that keep it too. A table doesn't rank draws: this is a rule of thumb.
     ///
     /// # Errors
     /// Those of [`Tables::value`] and [`Tables::moves`], for the position and for those that
@@ -157,8 +157,8 @@ impl Tables {
         position.play(played)
     }
 
-    /// Reads all files, and tells whether each is whole: by its header, its length and its digest.
-    /// Whether its values are right, only `morris verify` tells.
+    /// Reads all files, and says whether each is whole: by its header, its length and its digest.
+    /// Only `morris verify` says whether its values are right.
     ///
     /// # Errors
     /// [`Error::Damaged`] for the first file that isn't whole; [`Error::Open`] for one that the
