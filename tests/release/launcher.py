@@ -2,6 +2,7 @@
 the program that is tried. The kit's place is taken by a script, so that nothing is proved here."""
 
 import functools
+import glob
 import os
 import shutil
 import signal
@@ -132,8 +133,8 @@ class Proved(Launcher):
         self.refused("no released program", words=["--released", *LOOK], said=CHANGED)
 
     def stopped(self, number, said, *words, **env):
-        """It says this, and begins to prove. Ended by a signal, it leaves no process, and no
-        lock."""
+        """It says this, and begins to prove. Ended by a signal, it leaves no process, no lock and no
+        copy of a crate."""
         told = f"{self.at}/told"
         with self.started(self.words(*words), path=self.kit(WAITS), TOLD=told, **env) as it:
             found = "".join(it.stderr.readline() for _ in range(said.count("\n") + 1))
@@ -145,6 +146,7 @@ class Proved(Launcher):
         subprocess.run(["flock", "-w", "30", lock, "true"], check=True)
         for process in packing.read(told).decode().split():
             self.wait_for(lambda: not os.path.exists(f"/proc/{process}"))
+        self.wait_for(lambda: not glob.glob(f"{self.top}/crates/*/out/room"))
         os.remove(told)
 
     def wait_for(self, call):
